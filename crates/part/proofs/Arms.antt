@@ -1,0 +1,159 @@
+-- What each type's sequence comes to: the values' test, and then what the numbers of the working state become.
+-- Assumes nothing.
+use Prim.Native.Nat.{ℕ, zero, suc, _+_, _≤_}
+use mathlib.Core.Path.{_≡_, refl, sym}
+use mathlib.Core.Bool.{Bool, true, false, _&&_}
+use mathlib.Core.List.{List}
+use native.Mathlib.Nat.{sub-zero}
+use native.Mathlib.Omega.{arith}
+use lib.ListN.{length, getD, set}
+use lib.Dec.{ltb, leb, eqb}
+use borrow.Author.Tests.{leb-true, le-leb, eqb-true}
+use Rattle.part.specs.Numbers.{if_then_else_, origin, ones, byte, word, signed}
+use Rattle.part.specs.Checks.{Checked, fine, fault, require, _>>=_, _>>_}
+use Rattle.part.specs.Ranges.{upTo, only, colours, _to_, _or_, _∈_}
+use Rattle.part.specs.Elements.{ruleWidth, rule}
+use Rattle.part.specs.States.{point, withAt, withSuppression}
+use Rattle.part.specs.Types.{types}
+use Rattle.part.specs.Presenting.{default, moved}
+use Rattle.part.specs.Text.{cycle}
+use Rattle.part.specs.Place.{becomes, toInline, toBaseline, place, placeText}
+use Rattle.part.specs.Part.{roomed, placed}
+use Rattle.part.specs.Code.{verdict, stateOf, stateAfter, inked, ruled, repeating, performed}
+use Rattle.part.specs.Working.{absolute, relative, line, setting, fontSetting, adjusting, oriented, beginning, ending}
+use Rattle.part.specs.declared.shapes.Descriptor.{Descriptor}
+use Rattle.part.specs.declared.shapes.State.{State}
+use Rattle.part.proofs.Cycles.{once}
+use Rattle.part.proofs.Places.{inline-set, baseline-set, line-set, margin-set, increment-set, adjustment-set, font-set, colour-set, space-set, suppression-set}
+
+-- a function that stores no record: its verdict on the numbers is that on the state, and the area stays
+pub plainly : {A : Type 0} (n : ℕ) (a : A) (m : Checked A) (f : A → State) (area : List ℕ) (used : ℕ) → verdict n a ≡ m
+    → (verdict n (f a) ≡ stateAfter (m >>= λ x. becomes (f x))) × (area ≡ inked area used (m >>= λ x. becomes (f x)))
+plainly zero a m f area used e = rw (← e) (refl, refl)
+plainly (suc n) a m f area used e = rw (← e) (refl, refl)
+
+-- a test in front: what follows a value that passed
+under : {A B : Type 0} (t : Bool) (code : ℕ) (a : A) (f : A → Checked B) (m : Checked B) → (t ≡ true → f a ≡ m) → ((require t code >> fine a) >>= f) ≡ (require t code >> m)
+under true code a f m h = h refl
+under false code a f m h = refl
+
+-- the same test in front of both
+alike : {A B C : Type 0} (t : Bool) (code : ℕ) (a : A) (f : A → Checked C) (b : B) (g : B → Checked C) → (t ≡ true → f a ≡ g b) → ((require t code >> fine a) >>= f) ≡ ((require t code >> fine b) >>= g)
+alike true code a f b g h = h refl
+alike false code a f b g h = refl
+
+after-test : {A B C : Type 0} (t : Bool) (code : ℕ) (a : A) (f : A → Checked C) (m : Checked B) (g : B → Checked C) → (t ≡ true → f a ≡ (m >>= g)) → ((require t code >> fine a) >>= f) ≡ ((require t code >> m) >>= g)
+after-test true code a f m g h = h refl
+after-test false code a f m g h = refl
+
+module _ (widths : List ℕ) (d : Descriptor) (w p : List ℕ) (twelve : length w ≡ 12) where
+  abbrev does : ℕ → Checked (List ℕ) → Type 0
+  does function m = performed widths d (stateOf w) function p ≡ (m >>= λ l. becomes (stateOf l))
+
+  -- ---- moves
+
+  absolute-within : leb (word 0 p 0) 0x7FFF ≡ true → moved origin (word 0 p 0) 0 ≡ fine (origin + word 0 p 0)
+  unfolding moved
+  absolute-within t =
+      let v = word 0 p 0 in
+      let h : v ≤ 0x7FFF = leb-true v 0x7FFF t in
+      rw (le-leb 0 (origin + v) (omega arith), le-leb (origin + v) 65535 (omega arith), sub-zero)
+
+  pub arm-AMI : does 0xC6 (absolute w 0 p)
+  unfolding types placed place
+  arm-AMI = alike (leb (word 0 p 0) 0x7FFF) 24 _ _ _ _ (λ t. rw (absolute-within t, inline-set w twelve (origin + word 0 p 0)))
+
+  pub arm-AMB : does 0xD2 (absolute w 1 p)
+  unfolding types placed place
+  arm-AMB = alike (leb (word 0 p 0) 0x7FFF) 24 _ _ _ _ (λ t. rw (absolute-within t, baseline-set w twelve (origin + word 0 p 0)))
+
+  inline-arm : (m : Checked ℕ) → roomed (stateOf w) (toInline (stateOf w) m) ≡ ((m >>= λ n. fine (set w 0 n)) >>= λ l. becomes (stateOf l))
+  inline-arm (fine n) = rw (inline-set w twelve n)
+  inline-arm (fault code at) = refl
+
+  baseline-arm : (m : Checked ℕ) → roomed (stateOf w) (toBaseline (stateOf w) m) ≡ ((m >>= λ n. fine (set w 1 n)) >>= λ l. becomes (stateOf l))
+  baseline-arm (fine n) = rw (baseline-set w twelve n)
+  baseline-arm (fault code at) = refl
+
+  pub arm-RMI : does 0xC8 (relative w 0 p)
+  unfolding types placed place
+  arm-RMI = inline-arm (moved (getD w 0 0) (signed (word 0 p 0)) origin)
+
+  pub arm-RMB : does 0xD4 (relative w 1 p)
+  unfolding types placed place
+  arm-RMB = baseline-arm (moved (getD w 1 0) (signed (word 0 p 0)) origin)
+
+  pub arm-BLN : does 0xD8 (line w)
+  unfolding types placed place
+  arm-BLN = go (moved origin (getD w 2 0) 0) (moved (getD w 1 0) (getD w 3 0) 0)
+    where
+      go : (m n : Checked ℕ) → roomed (stateOf w) (m >>= λ i. n >>= λ b. becomes (withAt (stateOf w) (point i b))) ≡ ((m >>= λ i. n >>= λ b. fine (set (set w 0 i) 1 b)) >>= λ l. becomes (stateOf l))
+      go (fine i) (fine b) = rw (line-set w twelve i b)
+      go (fine i) (fault code at) = refl
+      go (fault code at) n = refl
+
+  -- ---- modal values
+
+  pub arm-SIM : does 0xC0 (setting w 2 p (upTo 0x7FFF) (d .margin))
+  unfolding types placed place
+  arm-SIM = alike (word 0 p 0 ∈ upTo 0x7FFF or only ones) 24 _ _ _ _ (λ t. rw (margin-set w twelve (default ones (word 0 p 0) (d .margin))))
+
+  pub arm-SBI : does 0xD0 (setting w 3 p (upTo 0x7FFF) (d .increment))
+  unfolding types placed place
+  arm-SBI = alike (word 0 p 0 ∈ upTo 0x7FFF or only ones) 24 _ _ _ _ (λ t. rw (increment-set w twelve (default ones (word 0 p 0) (d .increment))))
+
+  -- of a variable space all ones are themselves: absent
+  absent : (v : ℕ) → default ones v ones ≡ v
+  absent v = own (eqb v ones) refl
+    where
+      own : (t : Bool) → eqb v ones ≡ t → default ones v ones ≡ v
+      own true e = rw e (sym (eqb-true v ones e))
+      own false e = rw e
+
+  pub arm-SVI : does 0xC4 (setting w 8 p (upTo 0x0FFF) ones)
+  unfolding types placed place
+  arm-SVI = alike (word 0 p 0 ∈ upTo 0x0FFF or only ones) 24 _ _ _ _ (λ t. rw (absent (word 0 p 0), space-set w twelve (word 0 p 0)))
+
+  pub arm-STC : does 0x74 (setting w 7 p colours (d .colour))
+  unfolding types placed place
+  arm-STC = alike (word 0 p 0 ∈ colours or only ones) 24 _ _ _ _ (λ t. rw (colour-set w twelve (default ones (word 0 p 0) (d .colour))))
+
+  pub arm-SCFL : does 0xF0 (fontSetting w p (d .font))
+  unfolding types placed place
+  arm-SCFL = alike (byte 0 p 0 ∈ upTo 0x03 or only 0xFF) 25 _ _ _ _ (λ t. rw (font-set w twelve (default 0xFF (byte 0 p 0) (d .font))))
+
+  pub arm-SIA : does 0xC2 (adjusting w p (d .adjustment) (d .direction))
+  unfolding types placed place
+  arm-SIA = alike (word 0 p 0 ∈ upTo 0x0FFF or only ones && byte 0 p 2 ∈ upTo 0x01 or only 0xFF) 24 _ _ _ _ (λ t. rw (adjustment-set w twelve (default ones (word 0 p 0) (d .adjustment)) (default 0xFF (byte 0 p 2) (d .direction))))
+
+  pub arm-STO : performed widths d (stateOf w) 0xF6 p ≡ (oriented p >>= λ _. becomes (stateOf w))
+  unfolding types placed place
+  arm-STO = under (word 0 p 0 ∈ only 0x0000 or only ones && word 0 p 2 ∈ only 0x2D00 or only ones) 24 _ _ _ (λ t. refl)
+
+  -- ---- suppressions
+
+  paired : (t : Bool) (id : ℕ) → roomed (stateOf w) (require t 26 >> becomes (withSuppression (stateOf w) id)) ≡ ((require t 26 >> fine (set w 9 id)) >>= λ l. becomes (stateOf l))
+  paired true id = rw (suppression-set w twelve id)
+  paired false id = refl
+
+  pub arm-BSU : does 0xF2 (beginning w p)
+  unfolding types placed place
+  arm-BSU = after-test (byte 0 p 0 ∈ 0x01 to 0x7F) 24 _ _ _ _ (λ t. paired (eqb (getD w 9 0) 0) (byte 0 p 0))
+
+  pub arm-ESU : does 0xF4 (ending w p)
+  unfolding types placed place
+  arm-ESU = after-test (byte 0 p 0 ∈ 0x01 to 0x7F) 24 _ _ _ _ (λ t. paired (eqb (getD w 9 0) (byte 0 p 0)) 0)
+
+  -- ---- rules and text
+
+  pub arm-rule : (mark : ℕ) → (rule mark p >>= placed widths d (stateOf w)) ≡ ruled d (stateOf w) mark p
+  unfolding placed place
+  arm-rule mark = under (word 0 p 0 ∈ upTo 0x7FFF && ruleWidth (word 0xFF p 2) (byte 0xFF p 4)) 24 _ _ _ (λ t. refl)
+
+  pub arm-RPS : performed widths d (stateOf w) 0xEE p ≡ repeating widths d (stateOf w) p
+  unfolding types placed place
+  arm-RPS = under (word 0 p 0 ∈ upTo (if ltb 2 (length p) then 0x7FFF else 0)) 24 _ _ _ (λ t. refl)
+
+  pub arm-TRN : performed widths d (stateOf w) 0xDA p ≡ roomed (stateOf w) (placeText widths d (stateOf w) (cycle p 0 (length p)))
+  unfolding types placed place
+  arm-TRN = rw (once p)

@@ -1,0 +1,51 @@
+-- The record of a text: a head of sixteen bytes and the characters; it is refused or stored by its length.
+-- Assumes nothing.
+use Prim.Native.Nat.{ℕ, _+_, _-_, _<_, _≤_}
+use mathlib.Core.Path.{_≡_, sym}
+use mathlib.Core.List.{List, [], _∷_, _++_, append-nil}
+use native.Mathlib.Omega.{arith}
+use lib.ListN.{length}
+use lib.Dec.{eqb}
+use borrow.Author.Tests.{le-leb, lt-leb}
+use Rattle.part.specs.Numbers.{if_then_else_, origin}
+use Rattle.part.specs.Checks.{refuse}
+use Rattle.part.specs.States.{withInline, withUsed}
+use Rattle.part.specs.Records.{bytesOf, allBytes}
+use Rattle.part.specs.Place.{effect, shownText}
+use Rattle.part.specs.Code.{advanced, headBytes}
+use Rattle.part.specs.declared.shapes.State.{State}
+use Rattle.part.specs.declared.record.Head.{Head}
+
+-- the eight numbers that a text's record begins with
+abbrev pub headOf : State → ℕ → Head
+headOf s n = record {
+  length = 16 + n;
+  kind = 1;
+  i = s .at .i + origin;
+  b = s .at .b + origin;
+  first = s .font;
+  second = s .colour;
+  third = (if eqb (s .direction) 1 then 65536 - s .adjustment else s .adjustment);
+  fourth = s .space;
+}
+
+text-length : (s : State) (cs : List ℕ) → length (bytesOf (shownText s cs)) ≡ 16 + length cs
+unfolding bytesOf
+text-length s cs = omega arith
+
+module _ (s : State) (i : ℕ) (cs : List ℕ) where
+  pub text-full : 4096 < s .used + 16 + length cs → advanced s i cs ≡ refuse 29
+  text-full h =
+      let n = s .used + length (bytesOf (shownText s cs)) in
+      rw (lt-leb n 4096 (omega (arith, text-length s cs)))
+
+  pub text-fits : s .used + 16 + length cs ≤ 4096 → advanced s i cs ≡ effect (withUsed (withInline s i) (s .used + 16 + length cs)) (shownText s cs ∷ [])
+  text-fits h =
+      let n = s .used + length (bytesOf (shownText s cs)) in
+      let e : n ≡ s .used + 16 + length cs = omega (arith, text-length s cs) in
+      rw (le-leb n 4096 (omega (arith, text-length s cs)), e)
+
+  -- a text's head and its characters
+  pub text-bytes : headBytes (headOf s (length cs)) ++ cs ≡ allBytes (shownText s cs ∷ [])
+  unfolding bytesOf
+  text-bytes = sym (append-nil _)

@@ -1,0 +1,162 @@
+-- Characters along a line: `a ++ b` is a, and then b from where a left off. Where I does not fall, the last character's end decides for all.
+-- Assumes nothing.
+use Prim.Native.Nat.{ℕ, zero, suc, _+_, _*_, _-_, _/_, _%_, _<_, _≤_}
+use mathlib.Core.Path.{_≡_, refl, sym, _∙_, ap}
+use mathlib.Core.Bool.{true, false, not, _&&_, _||_, or-true, and-false}
+use mathlib.Core.List.{List, [], _∷_, _++_}
+use mathlib.Core.Logic.{_⊎_, inl, inr, ⊎-elim}
+use native.Mathlib.Nat.{zero-add, suc-mul, zero-mul, add-assoc, mul-le-mul-left, mul-left-comm, mul-add, div-add-mod', mod-lt}
+use native.Mathlib.Numerals.{add-one}
+use native.Mathlib.Omega.{arith}
+use borrow.Author.Tests.{le-leb, lt-leb}
+use lib.ListN.{length, take, getD, drop, drop-of-length-le}
+use lib.Seq.{drop-cons, length-take-le}
+use lib.Dec.{leb}
+use Rattle.part.specs.Numbers.{origin, last}
+use Rattle.part.specs.Checks.{Checked, fine, fault, _>>=_}
+use Rattle.part.specs.Presenting.{moved}
+use Rattle.part.specs.Text.{cycle}
+use Rattle.part.specs.Code.{verdict, reached, widthIn, stepped, along, widthsOf}
+use Rattle.part.specs.declared.text.Line.{Line}
+use Rattle.part.specs.declared.text.Reached.{Reached}
+use Rattle.part.proofs.Checks.{after, regrouped}
+use Rattle.part.proofs.Cycles.{length-cycle, times, round, rounds}
+
+-- ---- widths together
+
+module _ (row : List ℕ) (space : ℕ) where
+  pub widths-then : (a b : List ℕ) → widthsOf row space (a ++ b) ≡ widthsOf row space a + widthsOf row space b
+  unfolding widthsOf
+  widths-then [] b = sym (zero-add (widthsOf row space b))
+  widths-then (c ∷ a) b = rw (widths-then a b) (sym (add-assoc (widthIn row space c) (widthsOf row space a) (widthsOf row space b)))
+
+  pub widths-times : (t : List ℕ) (q : ℕ) → widthsOf row space (times t q) ≡ q * widthsOf row space t
+  unfolding widthsOf
+  widths-times t zero = sym (zero-mul (widthsOf row space t))
+  widths-times t (suc q) = rw (widths-then t (times t q), widths-times t q, suc-mul) (omega arith)
+
+  -- of a text that begins again at its end: its widths for each whole round, and those of a last part of one
+  pub widths-cycle : (t : List ℕ) (count : ℕ) → 0 < length t → widthsOf row space (cycle t 0 count) ≡ count / length t * widthsOf row space t + widthsOf row space (take (count % length t) t)
+  widths-cycle t count h =
+      let q = count / length t in
+      let rest = take (count % length t) t in
+      let part : count % length t < length t = mod-lt count h in
+      let all : cycle t 0 count ≡ times t q ++ rest = ap (cycle t 0) (sym (div-add-mod' count (length t))) ∙ rounds t q (count % length t) (omega arith) in
+      rw (all, widths-then (times t q) rest, widths-times t q)
+
+  -- those from number k on
+  pub widths-rest : (t : List ℕ) (k : ℕ) → k < length t → widthsOf row space (drop k t) ≡ widthIn row space (getD t k 0) + widthsOf row space (drop (k + 1) t)
+  unfolding widthsOf
+  widths-rest t k h = rw (add-one, drop-cons t k 0 h)
+
+  pub widths-none : (t : List ℕ) (k : ℕ) → length t ≤ k → widthsOf row space (drop k t) ≡ 0
+  unfolding widthsOf
+  widths-none t k h = rw (drop-of-length-le t h)
+
+-- what bounds a round, and a last part of one, by their characters bounds all
+pub rounds-bound : (t : List ℕ) (count v w b : ℕ) → 0 < length t → v ≤ b * length t → w ≤ b * length (take (count % length t) t) → count / length t * v + w ≤ b * count
+rounds-bound t count v w b p h k =
+    let n = length t in
+    let q = count / n in
+    let part : count % n < n = mod-lt count p in
+    let rest : w ≤ b * (count % n) = rw (length-take-le (count % n) t (omega arith)) at k in
+    let round : q * v ≤ q * (b * n) = mul-le-mul-left q h in
+    let all : b * (q * n) + b * (count % n) ≡ b * count = sym (mul-add b (q * n) (count % n)) ∙ ap (λ m. b * m) (div-add-mod' count n) in
+    omega (arith, mul-left-comm q b n)
+
+-- ---- along the line
+
+-- what is refused stays so
+refused : (code at : ℕ) (f : ℕ → Checked ℕ) → (code ≡ 0 → ⊥) → (verdict code at >>= f) ≡ verdict code at
+refused zero at f h = absurd (h refl)
+refused (suc code) at f h = refl
+
+-- Nothing is shown; or a line that begins at i, and whose last character takes I to `next`, lies on the sheet.
+abbrev pub Clear : Line → ℕ → ℕ → Type 0
+Clear l i next = (l .shown ≡ false) ⊎ ((origin ≤ i) × (next ≤ l .limit + l .plus))
+
+module _ (row : List ℕ) (l : Line) where
+  -- a then b
+  pub along-then : (i : ℕ) (a b : List ℕ) → along row l i (a ++ b) ≡ (along row l i a >>= λ j. along row l j b)
+  unfolding along
+  along-then i [] b = refl
+  along-then i (c ∷ a) b =
+      let m = stepped row l i (widthIn row (l .space) c) in
+      after m (λ j. along row l j (a ++ b)) (λ j. along row l j a >>= λ k. along row l k b) (λ j. along-then j a b)
+      ∙ sym (regrouped m (λ j. along row l j a) (λ j. along row l j b))
+
+  -- those from number k on: a character of width w that goes on, one that is refused, and none left
+  module _ (t : List ℕ) (k i : ℕ) {w : ℕ} (h : k < length t) (e : w ≡ widthIn row (l .space) (getD t k 0)) where
+    pub goes-on : {j : ℕ} → stepped row l i w ≡ fine j → along row l j (drop (k + 1) t) ≡ along row l i (drop k t)
+    unfolding along
+    goes-on step = rw (add-one, drop-cons t k 0 h, along, ← e, step)
+
+    pub halts : {code at : ℕ} → stepped row l i w ≡ fault code at → along row l i (drop k t) ≡ fault code at
+    unfolding along
+    halts step = rw (drop-cons t k 0 h, along, ← e, step)
+
+  pub arrives : (t : List ℕ) (k i : ℕ) → length t ≤ k → along row l i (drop k t) ≡ fine i
+  unfolding along
+  arrives t k i h = rw (drop-of-length-le t h)
+
+  -- a round of a text that begins again at its end, where more than one is left
+  module _ (t : List ℕ) (i left : ℕ) (r : Reached) (h : length t ≤ left) (e : reached r ≡ along row l i t) where
+    one-round : along row l i (cycle t 0 left) ≡ (reached r >>= λ j. along row l j (cycle t 0 (left - length t)))
+    one-round =
+        let more : left ≡ length t + (left - length t) = omega arith in
+        let all : cycle t 0 left ≡ t ++ cycle t 0 (left - length t) = ap (cycle t 0) more ∙ round t (left - length t) in
+        rw (all, along-then i t (cycle t 0 (left - length t)), ← e)
+
+    pub round-halts : (r .fault ≡ 0 → ⊥) → along row l i (cycle t 0 left) ≡ reached r
+    round-halts f = one-round ∙ refused (r .fault) (r .at) (λ j. along row l j (cycle t 0 (left - length t))) f
+
+    pub round-on : r .fault ≡ 0 → along row l (r .at) (cycle t 0 (left - length t)) ≡ along row l i (cycle t 0 left)
+    round-on f = sym (rw f at one-round)
+
+  -- ---- one character of width w at i
+
+  module _ (i w : ℕ) where
+    pub off-start : l .shown ≡ true → i < origin → stepped row l i w ≡ fault 27 0
+    off-start s h = rw (s, lt-leb origin i h)
+
+    pub off-end : l .shown ≡ true → l .limit < i + w → stepped row l i w ≡ fault 27 0
+    off-end s h = rw (s, lt-leb (i + w) (l .limit) h, and-false (leb origin i))
+
+    module _ (clear : Clear l i (i + w + l .plus)) where
+      on-sheet : (not (l .shown) || leb origin i && leb (i + w) (l .limit)) ≡ true
+      on-sheet =
+          ⊎-elim (λ s. rw s) (λ b. rw (le-leb origin i (b .0), le-leb (i + w) (l .limit) (omega arith)) (or-true (not (l .shown)))) clear
+
+      advanced : stepped row l i w ≡ moved (i + w) (l .plus) (l .minus)
+      unfolding moved
+      advanced = rw (on-sheet, add-assoc i w (l .plus))
+
+      pub too-low : i + w + l .plus < l .minus → stepped row l i w ≡ fault 28 0
+      unfolding moved
+      too-low h = rw (advanced, lt-leb (l .minus) (i + w + l .plus) h)
+
+      pub too-high : l .minus ≤ i + w + l .plus → last < i + w + l .plus - l .minus → stepped row l i w ≡ fault 28 0
+      unfolding moved
+      too-high m h = rw (advanced, lt-leb (i + w + l .plus) (last + l .minus) (omega arith), and-false (leb (l .minus) (i + w + l .plus)))
+
+      pub moves : l .minus ≤ i + w + l .plus → i + w + l .plus - l .minus ≤ last → stepped row l i w ≡ fine (i + w + l .plus - l .minus)
+      unfolding moved
+      moves m h = rw (advanced, le-leb (l .minus) (i + w + l .plus) m, le-leb (i + w + l .plus) (last + l .minus) (omega arith))
+
+  -- From where a level line begins, its characters take it to its end.
+  pub level : (i end : ℕ) (cs : List ℕ) → l .minus ≡ 0 → i + widthsOf row (l .space) cs + length cs * l .plus ≡ end → end ≤ last → Clear l i end → along row l i cs ≡ fine end
+  unfolding along widthsOf
+  level i end [] z e m clear =
+      let sum : i + 0 + 0 ≡ end = rw zero-mul at e in
+      ap fine (omega arith)
+  level i end (c ∷ cs) z e m clear =
+      let w = widthIn row (l .space) c in
+      let j = i + w + l .plus - l .minus in
+      let sum : i + (w + widthsOf row (l .space) cs) + (length cs * l .plus + l .plus) ≡ end = rw suc-mul at e in
+      let here : Clear l i (i + w + l .plus) = ⊎-elim (λ s. inl s) (λ b. inr (b .0, omega arith)) clear in
+      let further : Clear l j end = ⊎-elim (λ s. inl s) (λ b. inr (omega arith, b .1)) clear in
+      rw (along, moves i w here (omega arith) (omega arith)) (level j end cs z (omega arith) m further)
+
+  pub level-cycle : (t : List ℕ) (i count total : ℕ) → total ≡ widthsOf row (l .space) (cycle t 0 count) → l .minus ≡ 0 → i + total + count * l .plus ≤ last → Clear l i (i + total + count * l .plus) → along row l i (cycle t 0 count) ≡ fine (i + total + count * l .plus)
+  level-cycle t i count total e z m clear =
+      level i (i + total + count * l .plus) (cycle t 0 count) z (rw (← e, length-cycle t 0 count)) m clear

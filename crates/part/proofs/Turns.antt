@@ -1,0 +1,232 @@
+-- A turn of the loop over a part's elements, on plain values. `Here` is its invariant: what the elements from here on come to, behind the
+-- items that are done, is what the whole part comes to.
+-- Assumes nothing.
+use Prim.Native.Nat.{ℕ, zero, suc, _+_, _-_, _/_, _%_, _<_, _≤_}
+use mathlib.Core.Path.{_≡_, refl, sym, _∙_, ap, subst}
+use mathlib.Core.Bool.{true}
+use mathlib.Core.List.{List, [], _∷_, _++_, append-assoc, append-nil}
+use native.Mathlib.Nat.{sub-zero}
+use native.Mathlib.Omega.{arith}
+use lib.ListN.{length, take, drop, getD, set, length-append, length-drop, length-set}
+use lib.Seq.{sets, sets-eq, length-take-le, take-at, drop-drop}
+use Rattle.part.specs.Checks.{Checked, fine, fault, startingAt, _>>=_}
+use Rattle.part.specs.States.{withChain}
+use Rattle.part.specs.Ranges.{hold, descriptorFields}
+use Rattle.part.specs.Elements.{Element, Text}
+use Rattle.part.specs.Types.{valuesOf}
+use Rattle.part.specs.Reading.{Found, Piece, piece, found, element, cutFrom, cut}
+use Rattle.part.specs.Records.{Item, allBytes}
+use Rattle.part.specs.Text.{cycle}
+use Rattle.part.specs.Place.{Effect, effect, place, placeText}
+use Rattle.part.specs.Part.{roomed, placed, passed, elements}
+use Rattle.part.specs.Code.{verdict, stateOf, stateAfter, inked, performed, Ready, Leaves, Ran}
+use Rattle.part.specs.declared.shapes.Descriptor.{Descriptor}
+use Rattle.part.specs.declared.shapes.State.{State}
+use Rattle.part.proofs.Bounds.{used-fits}
+use Rattle.part.proofs.Checks.{went-on, same-value, value-of}
+use Rattle.part.proofs.Cutting.{cut-one, cut-fault, enough}
+use Rattle.part.proofs.Cycles.{once}
+use Rattle.part.proofs.Kept.{passed-kept}
+use Rattle.part.proofs.Parts.{allBytes-join, passed-leaves}
+use Rattle.part.proofs.Places.{chain-set}
+use Rattle.part.proofs.Reading.{reads-within}
+
+-- ---- one element, and the rest
+
+module _ (widths : List ℕ) (d : Descriptor) where
+  stops : (k at chain : ℕ) (rest : List ℕ) (s : State) (code j : ℕ) → 0 < length rest → (element chain rest >>= passed widths d s) ≡ fault code j
+      → elements widths d s (cutFrom (suc k) at chain rest) ≡ fault code (at + j)
+  unfolding elements
+  stops k at chain rest s code j some h = go (element chain rest) refl h
+    where
+      go : (m : Checked Found) → element chain rest ≡ m → (m >>= passed widths d s) ≡ fault code j → elements widths d s (cutFrom (suc k) at chain rest) ≡ fault code (at + j)
+      go (fine f) e q = rw (cut-one k at chain rest f some e, elements, q)
+      go (fault c i) e q = rw (cut-fault k at chain rest c i some e, elements) (ap (startingAt at) q)
+
+  goes : (at : ℕ) (ps : List Piece) (s : State) (f : Found) (g : Effect) → passed widths d s f ≡ fine g
+      → elements widths d s (piece at (fine f) ∷ ps) ≡ (elements widths d (g .state) ps >>= λ o. effect (o .state) (g .items ++ o .items))
+  unfolding elements
+  goes at ps s f g q = rw (elements, q)
+
+cut-nil : (at chain : ℕ) (rest : List ℕ) → cutFrom 0 at chain rest ≡ []
+unfolding cutFrom
+cut-nil at chain rest = refl
+
+-- items in front of others, twice
+behind : (a b : List Item) (m : Checked Effect) → ((m >>= λ o. effect (o .state) (b ++ o .items)) >>= λ o. effect (o .state) (a ++ o .items)) ≡ (m >>= λ o. effect (o .state) ((a ++ b) ++ o .items))
+behind a b (fine e) = rw (append-assoc a b (e .items))
+behind a b (fault code at) = refl
+
+alone : (m : Checked Effect) → m ≡ (m >>= λ o. effect (o .state) ([] ++ o .items))
+alone (fine e) = refl
+alone (fault code at) = refl
+
+-- ---- what the code does with one element: `q`, and then the chain
+
+pub record Step (widths : List ℕ) (d : Descriptor) (s : State) (chain : ℕ) (rest : List ℕ) (size chains : ℕ) (q : Checked Effect) : Type 0 where
+  pub reads : (g : Effect) → q ≡ fine g → (f : Found) × (element chain rest ≡ fine f) × (f .size ≡ size) × (f .chains ≡ chains)
+  pub leads : (element chain rest >>= passed widths d s) ≡ (q >>= λ done. effect (withChain (done .state) chains) (done .items))
+
+module _ (widths : List ℕ) (d : Descriptor) (s : State) (chain : ℕ) (rest : List ℕ) where
+  pub run-step : (size : ℕ) → found (Text (take size rest)) size 0 ≡ element chain rest → Step widths d s chain rest size 0 (placed widths d s (Text (take size rest)))
+  unfolding passed
+  run-step size e = record { reads = λ g h. (_, sym e, refl, refl); leads = rw (← e) refl }
+
+  pub sequence-step : (function size chains : ℕ) (p : List ℕ) → (valuesOf function p >>= λ e. found e size chains) ≡ element chain rest → Step widths d s chain rest size chains (performed widths d s function p)
+  unfolding passed
+  sequence-step function size chains p h = record { reads = reads; leads = rw (← h) (leads (valuesOf function p)) }
+    where
+      reads : (g : Effect) → performed widths d s function p ≡ fine g → (f : Found) × (element chain rest ≡ fine f) × (f .size ≡ size) × (f .chains ≡ chains)
+      reads g q =
+          let v = went-on (valuesOf function p) (placed widths d s) q in
+          (_, sym (rw (v .1) at h), refl, refl)
+
+      leads : (m : Checked Element) → ((m >>= λ e. found e size chains) >>= passed widths d s) ≡ ((m >>= placed widths d s) >>= λ done. effect (withChain (done .state) chains) (done .items))
+      leads (fine e) = refl
+      leads (fault code at) = refl
+
+-- a free run as the code hands it on: as many characters as it has
+pub text-placed : (widths : List ℕ) (d : Descriptor) (s : State) (t : List ℕ) (n : ℕ) → n ≡ length t → roomed s (placeText widths d s (cycle t 0 n)) ≡ placed widths d s (Text t)
+unfolding placed place
+text-placed widths d s t n e = rw (e, once t)
+
+-- a state's verdict tells the effect's
+pub effect-fine : (t : State) (q : Checked Effect) → fine t ≡ stateAfter q → (g : Effect) × (q ≡ fine g) × (g .state ≡ t)
+effect-fine t (fine g) e = (g, refl, cc)
+effect-fine t (fault code at) e = absurd (let z : _≡_ {A = ℕ} 0 1 = cc in omega arith)
+
+pub effect-fault : (code j : ℕ) (q : Checked Effect) → fault code j ≡ stateAfter q → q ≡ fault code j
+effect-fault code j (fine g) e = cc
+effect-fault code j (fault c k) e = cc
+
+-- bytes stored at the end of those used
+stored-end : (area : List ℕ) (used : ℕ) (bytes : List ℕ) → used + length bytes ≤ length area → take (used + length bytes) (sets area used bytes) ≡ take used area ++ bytes
+stored-end area used bytes h =
+    let front : length (take used area ++ bytes) ≡ used + length bytes = length-append (take used area) bytes ∙ ap (λ n. n + length bytes) (length-take-le used area (omega arith)) in
+    rw (sets-eq bytes area used h) (take-at (take used area ++ bytes) (drop (used + length bytes) area) (used + length bytes) front)
+
+-- ---- the invariant: w₀ and area₀ are the run's start; area, w, at and count are where it stands
+
+abbrev rest-of : List ℕ → List ℕ → ℕ → List Piece
+rest-of part w at = cutFrom (length part - at) at (getD w 10 0) (drop at part)
+
+pub record Here (widths : List ℕ) (d : Descriptor) (part w₀ area₀ area w : List ℕ) (at count : ℕ) : Type 0 where
+  pub within : at ≤ length part
+  pub fewer : count ≤ at
+  pub ready : Ready widths area w
+  pub counted : count + length (rest-of part w at) ≡ length (cut (getD w₀ 10 0) part)
+  pub done : List Item
+  pub same : elements widths d (stateOf w₀) (cut (getD w₀ 10 0) part) ≡ (elements widths d (stateOf w) (rest-of part w at) >>= λ o. effect (o .state) (done ++ o .items))
+  pub drawn : take (getD w 11 0) area ≡ take (getD w₀ 11 0) area₀ ++ allBytes done
+
+pub start : (widths : List ℕ) (d : Descriptor) (part w area : List ℕ) → Ready widths area w → Here widths d part w area area w 0 0
+unfolding cut
+start widths d part w area ready =
+    let e = sub-zero (length part) in
+    record {
+      within = omega arith;
+      fewer = omega arith;
+      ready = ready;
+      counted = rw e (omega arith);
+      done = [];
+      same = rw e (alone (elements widths d (stateOf w) (cutFrom (length part) 0 (getD w 10 0) part)));
+      drawn = sym (append-nil (take (getD w 11 0) area));
+    }
+
+module _ (widths : List ℕ) (d : Descriptor) (part w₀ area₀ area w : List ℕ) (at count : ℕ) (here : Here widths d part w₀ area₀ area w at count) (h : at < length part) where
+  some-left : 0 < length (drop at part)
+  some-left = omega (arith, length-drop at part)
+
+  -- an element at fault
+  pub stopped : (code j : ℕ) → (element (getD w 10 0) (drop at part) >>= passed widths d (stateOf w)) ≡ fault code j → elements widths d (stateOf w₀) (cut (getD w₀ 10 0) part) ≡ fault code (at + j)
+  stopped code j e =
+      let fuel : length part - at ≡ suc (length part - (at + 1)) = omega arith in
+      here .same ∙ rw (fuel, stops widths d (length part - (at + 1)) at (getD w 10 0) (drop at part) (stateOf w) code j some-left e)
+
+  pub refused : (n : ℕ) (x : Found) → 0 < n → verdict n x ≡ element (getD w 10 0) (drop at part) → elements widths d (stateOf w₀) (cut (getD w₀ 10 0) part) ≡ fault (n % 256) (at + n / 256)
+  refused zero x k e = absurd (omega arith)
+  refused (suc n) x k e = stopped (suc n % 256) (suc n / 256) (rw (← e))
+
+  pub faulted : (size chains : ℕ) (q : Checked Effect) (n : ℕ) (t : State) → Step widths d (stateOf w) (getD w 10 0) (drop at part) size chains q → (n ≡ 0 → ⊥) → verdict n t ≡ stateAfter q
+      → elements widths d (stateOf w₀) (cut (getD w₀ 10 0) part) ≡ fault (n % 256) (at + n / 256)
+  faulted size chains q zero t step k e = absurd (k refl)
+  faulted size chains q (suc n) t step k e = stopped (suc n % 256) (suc n / 256) (step .leads ∙ rw (effect-fault (suc n % 256) (suc n / 256) q e))
+
+  -- the elements from here on: one, and those behind it
+  rest-next : (f : Found) → element (getD w 10 0) (drop at part) ≡ fine f
+      → rest-of part w at ≡ piece at (fine f) ∷ cutFrom (length part - (at + f .size)) (at + f .size) (f .chains) (drop (at + f .size) part)
+  rest-next f e =
+      let fuel : length part - at ≡ suc (length part - (at + 1)) = omega arith in
+      let z = reads-within (getD w 10 0) (drop at part) f some-left e in
+      let l = length-drop (at + f .size) part in
+      rw (fuel, cut-one (length part - (at + 1)) at (getD w 10 0) (drop at part) f some-left e, drop-drop (f .size) at part)
+      (ap (λ ps. piece at (fine f) ∷ ps) (enough (length part - (at + 1)) (length part - (at + f .size)) (at + f .size) (f .chains) (drop (at + f .size) part) (omega arith) (omega arith)))
+
+  -- an element passed
+  passing : (f : Found) (g : Effect) (w′ area′ : List ℕ) → element (getD w 10 0) (drop at part) ≡ fine f → passed widths d (stateOf w) f ≡ fine g → hold (descriptorFields d) ≡ true
+      → length w′ ≡ 12 → length area′ ≡ 4096 → stateOf w′ ≡ g .state → getD w′ 10 0 ≡ f .chains → area′ ≡ sets area (getD w 11 0) (allBytes (g .items))
+      → Here widths d part w₀ area₀ area′ w′ (at + f .size) (count + 1)
+  passing f g w′ area′ e pass dh long whole st chain ink =
+      let ready = here .ready in
+      let before = here .fewer in
+      let z = reads-within (getD w 10 0) (drop at part) f some-left e in
+      let next = rest-next f e in
+      let l = length-drop at part in
+      let grown = value-of (passed widths d (stateOf w) f) (passed-leaves widths d (stateOf w) f) pass .0 in
+      let grows = grown .grows in
+      let most = grown .fits (used-fits (stateOf w) (ready .inRange)) in
+      let used : getD w′ 11 0 ≡ getD w 11 0 + length (allBytes (g .items)) = ap (λ (s : State). s .used) st ∙ grows in
+      let room : getD w 11 0 + length (allBytes (g .items)) ≤ length area = omega (arith, ready .whole) in
+      record {
+        within = omega arith;
+        fewer = omega arith;
+        ready = record { twelve = long; inRange = rw st (passed-kept widths d dh (stateOf w) (getD w 10 0) (drop at part) (ready .inRange) e pass); widths = ready .widths; whole = whole };
+        counted = rw chain (omega (arith, ap length next, here .counted));
+        done = here .done ++ g .items;
+        same =
+            here .same ∙ rw (next, goes widths d at (cutFrom (length part - (at + f .size)) (at + f .size) (f .chains) (drop (at + f .size) part)) (stateOf w) f g pass, st, chain)
+            (behind (here .done) (g .items) (elements widths d (g .state) (cutFrom (length part - (at + f .size)) (at + f .size) (f .chains) (drop (at + f .size) part))));
+        drawn = rw (used, ink, stored-end area (getD w 11 0) (allBytes (g .items)) room, here .drawn, allBytes-join (here .done) (g .items)) (append-assoc (take (getD w₀ 11 0) area₀) (allBytes (here .done)) (allBytes (g .items)));
+      }
+
+  pub turn : (size chains : ℕ) (q : Checked Effect) (w′ area′ : List ℕ) → Step widths d (stateOf w) (getD w 10 0) (drop at part) size chains q → hold (descriptorFields d) ≡ true
+      → length w′ ≡ 12 → length area′ ≡ 4096 → fine (stateOf w′) ≡ stateAfter q → area′ ≡ inked area (getD w 11 0) q
+      → Here widths d part w₀ area₀ area′ (set w′ 10 chains) (at + size) (count + 1)
+  turn size chains (fault code j) w′ area′ step dh long whole e ink = absurd (let z : _≡_ {A = ℕ} 0 1 = cc in omega arith)
+  turn size chains (fine g) w′ area′ step dh long whole e ink = go (step .reads g refl)
+    where
+      go : ((f : Found) × (element (getD w 10 0) (drop at part) ≡ fine f) × (f .size ≡ size) × (f .chains ≡ chains)) → Here widths d part w₀ area₀ area′ (set w′ 10 chains) (at + size) (count + 1)
+      go r =
+          let f = r .0 in
+          let st : stateOf (set w′ 10 chains) ≡ withChain (g .state) chains = chain-set w′ long chains ∙ ap (λ (s : State). withChain s chains) (same-value e) in
+          let pass = sym (ap (λ (m : Checked Found). m >>= passed widths d (stateOf w)) (r .1)) ∙ step .leads in
+          let chain = ap (λ (s : State). s .chain) st ∙ sym (r .3) in
+          subst (λ (n : ℕ). Here widths d part w₀ area₀ area′ (set w′ 10 chains) (at + n) (count + 1)) (r .2)
+          (passing f (record { state = withChain (g .state) chains; items = g .items }) (set w′ 10 chains) area′ (r .1) pass dh (length-set w′ 10 chains ∙ long) whole st chain ink)
+
+-- ---- how it ends
+
+module _ (widths : List ℕ) (d : Descriptor) (part w₀ area₀ area w : List ℕ) (at count : ℕ) (here : Here widths d part w₀ area₀ area w at count) where
+  abbrev all : Checked Effect
+  all = elements widths d (stateOf w₀) (cut (getD w₀ 10 0) part)
+
+  abbrev many : ℕ
+  many = length (cut (getD w₀ 10 0) part)
+
+  pub ended : length part ≤ at → Leaves all many (getD w₀ 11 0) area₀ count (stateOf w) area
+  unfolding elements
+  ended h =
+      let none : length part - at ≡ 0 = omega arith in
+      let empty : rest-of part w at ≡ [] = rw none (cut-nil at (getD w 10 0) (drop at part)) in
+      let total = here .counted in
+      rw (here .same, empty, append-nil) (refl, (omega (arith, ap length empty), here .drawn))
+
+pub ran-fault : (m : Checked Effect) (many used : ℕ) (before : List ℕ) (n at count : ℕ) (s : State) (area : List ℕ) → (n ≡ 0 → ⊥) → m ≡ fault (n % 256) (at + n / 256)
+    → Ran m many used before (record { fault = n; at = at; count = count }) s area
+ran-fault m many used before zero at count s area k e = absurd (k refl)
+ran-fault m many used before (suc n) at count s area k e = e
+
+pub ran-stopped : (m : Checked Effect) (many used : ℕ) (before : List ℕ) (n at count : ℕ) (s : State) (area : List ℕ) → (n ≡ 0 → ⊥)
+    → Ran m many used before (record { fault = n; at = at; count = count }) s area → m ≡ fault (n % 256) (at + n / 256)
+ran-stopped m many used before zero at count s area k e = absurd (k refl)
+ran-stopped m many used before (suc n) at count s area k e = e

@@ -1,0 +1,41 @@
+-- `part::record::put` meets its contract: two stores side by side.
+-- Assumes nothing.
+use native.Mathlib.Numerals.{add-one}
+use native.Mathlib.Omega.{arith}
+use borrow.Author.Needs.{needs}
+use lib.ListN.{length-set}
+use Rattle.part.proofs.record.put.Statement.{statement}
+use Rattle.part.proofs.record.put.Tie as tie
+
+cast-area : tie.Need-cast-area
+cast-area c = search needs
+
+slice-write-area : tie.Need-slice-write-area
+slice-write-area c = search needs
+
+cast-area-2 : tie.Need-cast-area-2
+cast-area-2 c = search needs
+
+add-area : tie.Need-add-area
+add-area c = search needs
+
+slice-write-area-2 : tie.Need-slice-write-area-2
+slice-write-area-2 c = rw length-set (omega arith)
+
+same-length : tie.Need-same-length
+same-length c = search needs
+
+returns : tie.Need-returns
+returns c = rw add-one
+
+pub put-spec : {M : Type 1} → statement M
+put-spec =
+    tie.close
+    (tie.spec
+    cast-area
+    slice-write-area
+    cast-area-2
+    add-area
+    slice-write-area-2
+    same-length
+    returns)

@@ -1,0 +1,171 @@
+-- How the code's numbers stand for the rule book's values: what the contracts inside this crate cite, and no rule.
+use Prim.Native.Nat.{ℕ, zero, suc, _+_, _/_, _%_, _<_, _≤_}
+use mathlib.Core.Path.{_≡_}
+use mathlib.Core.Bool.{Bool, true, not, _&&_, _||_}
+use mathlib.Core.List.{List, [], _∷_, _++_}
+use lib.ListN.{length, take, drop, getD}
+use lib.Seq.{sets}
+use lib.Dec.{ltb, leb, eqb}
+use Rattle.part.specs.Numbers.{if_then_else_, origin, ones, byte, word, little}
+use Rattle.part.specs.Checks.{Checked, fine, fault, require, _>>=_, _>>_}
+use Rattle.part.specs.States.{point, state, withInline}
+use Rattle.part.specs.Ranges.{upTo, _∈_, hold, descriptorFields, stateFields}
+use Rattle.part.specs.Elements.{Text, ruleWidth}
+use Rattle.part.specs.Types.{Row, types, rowOf, valuesOf, all}
+use Rattle.part.specs.Reading.{Found, found, between}
+use Rattle.part.specs.Records.{Item, allBytes}
+use Rattle.part.specs.Presenting.{default, moved, hides}
+use Rattle.part.specs.Text.{cycle}
+use Rattle.part.specs.Place.{Effect, effect, shownText, placeText, placeRule}
+use Rattle.part.specs.Part.{roomed, placed}
+use Rattle.part.specs.declared.shapes.Descriptor.{Descriptor}
+use Rattle.part.specs.declared.shapes.State.{State}
+use Rattle.part.specs.declared.types.Lengths.{Lengths}
+use Rattle.part.specs.declared.reader.Read.{Read}
+use Rattle.part.specs.declared.reader.Read.the-variants.{Run, Sequence, Refused}
+use Rattle.part.specs.declared.record.Head.{Head}
+use Rattle.part.specs.declared.run.Outcome.{Outcome}
+use Rattle.part.specs.declared.text.Line.{Line}
+use Rattle.part.specs.declared.text.Reached.{Reached}
+
+-- ---- refusals
+
+-- a refusal as one number: its code, and 256 for each byte that it lies past the element's first; 0 is none
+abbrev pub verdict : {A : Type 0} → ℕ → A → Checked A
+verdict zero a = fine a
+verdict (suc n) a = fault (suc n % 256) (suc n / 256)
+
+-- ---- the table of types
+
+-- the LENGTHs of a row; none for an unknown type
+abbrev pub lengthsIn : Checked Row → Lengths
+lengthsIn (fine r) = r .lengths
+lengthsIn (fault code at) = all 0 0
+
+abbrev pub lengthsOf : ℕ → Lengths
+lengthsOf code = lengthsIn (rowOf types code)
+
+-- ---- the element reader
+
+abbrev pub foundBy : List ℕ → Read → Checked Found
+foundBy bytes (Run size) = found (Text (take size bytes)) size 0
+foundBy bytes (Sequence function from size chains) = valuesOf function (between bytes from size) >>= λ e. found e size chains
+foundBy bytes (Refused n) = verdict n (record { element = Text []; size = 0; chains = 0 })
+
+-- it ends within so many bytes, and has one at least
+abbrev pub Within : ℕ → Read → Type 0
+Within most (Run size) = (0 < size) × (size ≤ most)
+Within most (Sequence function from size chains) = (from ≤ size) × ((0 < size) × ((size ≤ most) × (chains ≤ 1)))
+Within most (Refused n) = 0 < n
+
+-- ---- the working state: I, B, margin, increment, adjustment, direction, font, colour, variable space, suppression, chain, bytes used
+
+abbrev pub stateOf : List ℕ → State
+stateOf w =
+    state (point (getD w 0 0) (getD w 1 0)) (getD w 2 0) (getD w 3 0) (getD w 4 0) (getD w 5 0) (getD w 6 0) (getD w 7 0) (getD w 8 0) (getD w 9 0) (getD w 10 0) (getD w 11 0)
+
+-- an effect's state, and its records stored at the bytes used
+abbrev pub stateAfter : Checked Effect → Checked State
+stateAfter m = m >>= λ e. fine (e .state)
+
+abbrev pub inked : List ℕ → ℕ → Checked Effect → List ℕ
+inked area used (fine e) = sets area used (allBytes (e .items))
+inked area used (fault code at) = area
+
+-- what placing relies on: the numbers of the working state in range, 1,024 widths, an area of 4,096 bytes
+pub record Ready (table area w : List ℕ) : Type 0 where
+  pub twelve : length w ≡ 12
+  pub inRange : hold (stateFields (stateOf w)) ≡ true
+  pub widths : length table ≡ 1024
+  pub whole : length area ≡ 4096
+
+-- ---- records, where there is room
+
+-- one item, and nothing else changed but the bytes used
+abbrev pub recorded : State → Item → Checked Effect
+recorded s x = roomed s (effect s (x ∷ []))
+
+-- text that leaves I at a place
+abbrev pub advanced : State → ℕ → List ℕ → Checked Effect
+advanced s i cs = roomed s (effect (withInline s i) (shownText s cs ∷ []))
+
+-- ---- rules
+
+-- DIR, DBR, from parameters to records
+abbrev pub ruled : Descriptor → State → ℕ → List ℕ → Checked Effect
+ruled d s mark p = do
+  require (word 0 p 0 ∈ upTo 0x7FFF && ruleWidth (word 0xFF p 2) (byte 0xFF p 4)) 24
+  roomed s (placeRule d s mark (word 0 p 0) (default ones (word 0xFF p 2) (d .rule)))
+
+-- ---- sequences
+
+-- RPS, from parameters to records
+abbrev pub repeating : List ℕ → Descriptor → State → List ℕ → Checked Effect
+repeating widths d s p = do
+  require (word 0 p 0 ∈ upTo (if ltb 2 (length p) then 0x7FFF else 0)) 24
+  roomed s (placeText widths d s (cycle (drop 2 p) 0 (word 0 p 0)))
+
+-- any sequence
+abbrev pub performed : List ℕ → Descriptor → State → ℕ → List ℕ → Checked Effect
+performed widths d s function p = valuesOf function p >>= placed widths d s
+
+-- ---- text: what does not change within an element is in a `Line`
+
+-- B lies on the sheet, or nothing is shown
+abbrev pub baseline : Descriptor → State → Bool
+baseline d s = hides d s || (leb origin (s .at .b) && leb (s .at .b + 0) (origin + d .size .b))
+
+-- its numbers, so that no sum of theirs wraps
+pub record Bounded (l : Line) : Type 0 where
+  pub space : l .space < 4294967296
+  pub limit : l .limit < 8589934592
+  pub plus : l .plus < 4294967296
+  pub minus : l .minus < 4294967296
+
+abbrev pub reached : Reached → Checked ℕ
+reached r = verdict (r .fault) (r .at)
+
+-- the width of X'40' is the line's, any other that in the font's row
+abbrev pub widthIn : List ℕ → ℕ → ℕ → ℕ
+widthIn row space c = if eqb c 0x40 then space else getD row c 0
+
+module _ (row : List ℕ) (l : Line) where
+  abbrev pub stepped : ℕ → ℕ → Checked ℕ
+  stepped i width = do
+    require (not (l .shown) || leb origin i && leb (i + width) (l .limit)) 27
+    moved i (width + l .plus) (l .minus)
+
+  unfoldable pub along : ℕ → List ℕ → Checked ℕ
+  along i [] = fine i
+  along i (c ∷ cs) = stepped i (widthIn row (l .space) c) >>= λ j. along j cs
+
+unfoldable pub widthsOf : List ℕ → ℕ → List ℕ → ℕ
+widthsOf row space [] = 0
+widthsOf row space (c ∷ cs) = widthIn row space c + widthsOf row space cs
+
+-- ---- records
+
+abbrev pub headBytes : Head → List ℕ
+headBytes h =
+    little (h .length) ++ little (h .kind) ++ little (h .i) ++ little (h .b)
+    ++ little (h .first) ++ little (h .second) ++ little (h .third) ++ little (h .fourth)
+
+-- ---- a run over a part's elements
+
+-- what a run leaves of an outcome: the state and as many elements, with the records behind the bytes used; or the refusal
+abbrev pub Leaves : Checked Effect → ℕ → ℕ → List ℕ → ℕ → State → List ℕ → Type 0
+Leaves (fine e) many used before count s area = (e .state ≡ s) × ((many ≡ count) × (take (s .used) area ≡ take used before ++ allBytes (e .items)))
+Leaves (fault code at) many used before count s area = ⊥
+
+abbrev pub Ran : Checked Effect → ℕ → ℕ → List ℕ → Outcome → State → List ℕ → Type 0
+Ran m many used before o s area =
+    elim (o .fault) [ zero ↦ Leaves m many used before (o .count) s area | suc n ↦ m ≡ fault (suc n % 256) (o .at + suc n / 256) ]
+
+-- ---- the tests before any element, by the lengths alone
+
+abbrev pub admittedBy : ℕ → ℕ → ℕ → Descriptor → State → Checked Unit
+admittedBy part widths area d s = do
+  require (eqb area 4096 && eqb widths 1024) 10
+  require (hold (stateFields s)) 12
+  require (hold (descriptorFields d)) 15
+  require (leb part 8192) 19

@@ -1,0 +1,15 @@
+pub mod Numbers
+pub mod Checks
+pub mod States
+pub mod Ranges
+pub mod Elements
+pub mod Types
+pub mod Reading
+pub mod Records
+pub mod Presenting
+pub mod Text
+pub mod Place
+pub mod Part
+pub mod Code
+pub mod Working
+pub mod Sheets

@@ -1,0 +1,91 @@
+// The element reader: what stands at the start of the bytes that are left.
+ghost use mathlib.Core.Path.{_≡_};
+ghost use Prim.Native.Nat.{_+_, _≤_, _<_};
+ghost use lib.ListN.{length};
+ghost use Rattle.part.specs.Reading.{stretch, sequence, element};
+ghost use Rattle.part.specs.Code.{foundBy, Within};
+use super::types::lengths_of;
+use super::types::split;
+use super::types::takes;
+
+// An element. All numbers count from its first byte.
+pub enum Read {
+    // A free run of so many bytes.
+    Run(usize),
+    // A control sequence: its function code, where its parameters begin, its size, and 1 where it chains the next.
+    Sequence {
+        function: u8,
+        from: usize,
+        size: usize,
+        chains: u32,
+    },
+    // A refusal: its code, and 256 for each byte past the first.
+    Refused(u32),
+}
+
+// How many bytes come before the next X'2B'.
+fn run_length(bytes: &[u8]) -> usize
+    ensures { λ r. ⌜ r ≡ stretch (now (bytes .entry)) ⌝ }
+{
+    let mut k: usize = 0;
+    while k < bytes.len() {
+        if bytes[k] == 0x2B {
+            return k;
+        }
+        k += 1;
+    }
+    k
+}
+
+// The sequence whose LENGTH and TYPE stand at `at`, behind the prefix or in a chain.
+fn read_sequence(bytes: &[u8], at: usize) -> Read
+    requires { ⌜ at ≤ 2 ⌝ }
+    ensures { λ r. ⌜ (foundBy (now (bytes .entry)) r ≡ sequence at (now (bytes .entry))) × Within (length (now (bytes .entry))) r ⌝ }
+{
+    let from = at + 2;
+    if bytes.len() < from {
+        return Read::Refused(20);
+    }
+    let n = bytes[at];
+    if n < 2 {
+        return Read::Refused(22);
+    }
+    let second = bytes[at + 1];
+    let kind = split(second);
+    let known = lengths_of(second);
+    if known.greatest == 0 {
+        return Read::Refused(23);
+    }
+    if !takes(known, n) {
+        return Read::Refused(22);
+    }
+    let size = at + n as usize;
+    if bytes.len() < size {
+        return Read::Refused(20);
+    }
+    Read::Sequence {
+        function: kind.function,
+        from,
+        size,
+        chains: kind.chains as u32,
+    }
+}
+
+// The element at the start of some bytes.
+pub fn read_element(bytes: &[u8], chain: u32) -> Read
+    requires { ⌜ 0 < length (now bytes) ⌝ }
+    ensures { λ r. ⌜ (foundBy (now (bytes .entry)) r ≡ element chain (now (bytes .entry))) × Within (length (now (bytes .entry))) r ⌝ }
+{
+    if chain == 1 {
+        return read_sequence(bytes, 0);
+    }
+    if bytes[0] != 0x2B {
+        return Read::Run(run_length(bytes));
+    }
+    if 1 < bytes.len() {
+        if bytes[1] != 0xD3 {
+            return Read::Refused(21);
+        }
+    }
+    read_sequence(bytes, 2)
+}

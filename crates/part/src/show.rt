@@ -1,0 +1,145 @@
+// Text as it is shown: along its line, and then its record.
+ghost use mathlib.Core.Path.{_≡_};
+ghost use mathlib.Core.Bool.{true, not};
+ghost use Prim.Native.Nat.{_+_, _-_, _≤_, _<_};
+ghost use lib.Dec.{eqb};
+ghost use lib.ListN.{length, getD};
+ghost use Rattle.part.specs.Numbers.{if_then_else_, origin, ones};
+ghost use Rattle.part.specs.Presenting.{default, hides};
+ghost use Rattle.part.specs.Text.{cycle, characters};
+ghost use Rattle.part.specs.Place.{shownText, placeText};
+ghost use Rattle.part.specs.Part.{roomed};
+ghost use Rattle.part.specs.Code.{verdict, reached, stateOf, stateAfter, inked, advanced, baseline, Bounded, Ready};
+use super::presenting::is_hidden;
+use super::presenting::within;
+use super::record::Head;
+use super::record::draw;
+use super::record::put_head;
+use super::shapes::Descriptor;
+use super::text::Line;
+use super::text::Reached;
+use super::text::present;
+use super::values::either;
+use super::values::or_default;
+use super::values::wide;
+use super::working::ADJUSTMENT;
+use super::working::B;
+use super::working::COLOUR;
+use super::working::DIRECTION;
+use super::working::FONT;
+use super::working::I;
+use super::working::ONES;
+use super::working::SPACE;
+use super::working::SUPPRESSION;
+use super::working::USED;
+
+// One of two numbers.
+fn pick(test: bool, a: u32, b: u32) -> u32
+    ensures { λ r. ⌜ r ≡ (if test then a else b) ⌝ }
+{
+    if test { a } else { b }
+}
+
+// The line of a state whose font has `own` for X'40'.
+fn line_of(space: u32, own: u32, hidden: bool, size: u32, direction: u32, amount: u32) -> Line
+    ensures { λ r. ⌜ r ≡ record { space = default ones space own; shown = not hidden; limit = origin + size; plus = (if eqb direction 1 then 0 else amount); minus = (if eqb direction 1 then amount else 0) } ⌝ }
+    ensures { λ r. ⌜ Bounded r ⌝ }
+{
+    Line {
+        space: wide(or_default(ONES, space, own)),
+        shown: !hidden,
+        limit: 32768 + wide(size),
+        plus: wide(pick(direction == 1, 0, amount)),
+        minus: wide(pick(direction == 1, amount, 0)),
+    }
+}
+
+// The adjustment as a signed number of 16 bits.
+fn signed_amount(direction: u32, amount: u32) -> usize
+    requires { ⌜ amount ≤ 65536 ⌝ }
+    ensures { λ r. ⌜ r ≡ (if eqb direction 1 then 65536 - amount else amount) ⌝ }
+{
+    if direction == 1 {
+        65536 - wide(amount)
+    } else {
+        wide(amount)
+    }
+}
+
+// Where characters leave I, from the working state's place, on a baseline of the sheet.
+fn walk_line(
+    t: &[u8],
+    count: usize,
+    widths: &[u16],
+    w: &[u32],
+    d: Descriptor,
+    hidden: bool,
+) -> Reached
+    requires { ⌜ ((length (now w) ≡ 12) × ((length (now widths) ≡ 1024) × (getD (now w) 6 0 ≤ 3))) × (((0 < length (now t)) × ((length (now t) < 65536) × (count < 65536))) × ((hidden ≡ hides d (stateOf (now w))) × (baseline d (stateOf (now w)) ≡ true))) ⌝ }
+    ensures { λ r. ⌜ (reached r ≡ characters (now (widths .entry)) d (stateOf (now (w .entry))) (getD (now (w .entry)) 0 0) (cycle (now (t .entry)) 0 count)) × (r .at < 4294967296) ⌝ }
+{
+    let font = wide(w[FONT]);
+    let from = 256 * font;
+    let to = from + 256;
+    let row = &widths[from..to];
+    let own = row[0x40] as u32;
+    let l = line_of(w[SPACE], own, hidden, d.size.i, w[DIRECTION], w[ADJUSTMENT]);
+    present(t, count, row, l, wide(w[I]))
+}
+
+// The record of a text that leaves I at a place, if there is room.
+fn record_text(t: &[u8], count: usize, area: &mut [u8], w: &mut [u32], i: usize) -> u32
+    requires { ⌜ (length (now w) ≡ 12) × ((length (now area) ≡ 4096) × ((getD (now w) 4 0 ≤ 4095) × ((0 < length (now t)) × ((count < 65536) × (i < 4294967296))))) ⌝ }
+    ensures { λ r. ⌜ (verdict r (stateOf (now (w .exit))) ≡ stateAfter (advanced (stateOf (now (w .entry))) i (cycle (now (t .entry)) 0 count))) × (now (area .exit) ≡ inked (now (area .entry)) (getD (now (w .entry)) 11 0) (advanced (stateOf (now (w .entry))) i (cycle (now (t .entry)) 0 count))) ⌝ }
+{
+    let used = wide(w[USED]);
+    let end = used + 16 + count;
+    if 4096 < end {
+        return 29;
+    }
+    let h = Head {
+        length: 16 + count,
+        kind: 1,
+        i: wide(w[I]) + 32768,
+        b: wide(w[B]) + 32768,
+        first: wide(w[FONT]),
+        second: wide(w[COLOUR]),
+        third: signed_amount(w[DIRECTION], w[ADJUSTMENT]),
+        fourth: wide(w[SPACE]),
+    };
+    put_head(area, used, h);
+    draw(area, used + 16, t, count);
+    w[I] = i as u32;
+    w[USED] = end as u32;
+    0
+}
+
+// `count` characters of a text: 27 or 28 of the first that fails, then 29.
+pub fn show_text(
+    t: &[u8],
+    count: usize,
+    widths: &[u16],
+    area: &mut [u8],
+    d: Descriptor,
+    w: &mut [u32],
+) -> u32
+    requires { ⌜ Ready (now widths) (now area) (now w) × ((0 < count → 0 < length (now t)) × ((length (now t) < 65536) × (count < 65536))) ⌝ }
+    ensures { λ r. ⌜ (verdict r (stateOf (now (w .exit))) ≡ stateAfter (roomed (stateOf (now (w .entry))) (placeText (now (widths .entry)) d (stateOf (now (w .entry))) (cycle (now (t .entry)) 0 count)))) × (now (area .exit) ≡ inked (now (area .entry)) (getD (now (w .entry)) 11 0) (roomed (stateOf (now (w .entry))) (placeText (now (widths .entry)) d (stateOf (now (w .entry))) (cycle (now (t .entry)) 0 count)))) ⌝ }
+{
+    if count == 0 {
+        return 0;
+    }
+    let hidden = is_hidden(w[SUPPRESSION], d.hidden);
+    if !either(hidden, within(w[B], 0, d.size.b)) {
+        return 27;
+    }
+    let r = walk_line(t, count, widths, w, d, hidden);
+    if r.fault != 0 {
+        return r.fault;
+    }
+    if hidden {
+        w[I] = r.at as u32;
+        return 0;
+    }
+    record_text(t, count, area, w, r.at)
+}

@@ -1,0 +1,135 @@
+// Characters along the line: where they leave I, or the first that is refused.
+ghost use mathlib.Core.Path.{_≡_};
+ghost use mathlib.Core.Bool.{true, false};
+ghost use Prim.Native.Nat.{_+_, _*_, _≤_, _<_};
+ghost use lib.ListN.{length};
+ghost use Rattle.part.specs.Text.{cycle};
+ghost use Rattle.part.specs.Code.{reached, widthIn, along, widthsOf};
+
+const ORIGIN: usize = 32768;
+
+const LAST: usize = 65535;
+
+// What does not change within an element: the width of X'40', whether characters are shown, the end of the sheet along I, the adjustment.
+pub struct Line {
+    pub space: usize,
+    pub shown: bool,
+    pub limit: usize,
+    pub plus: usize,
+    pub minus: usize,
+}
+
+// Where I comes to stand; or a refusal.
+pub struct Reached {
+    pub fault: u32,
+    pub at: usize,
+}
+
+// The width of a character: of X'40' the line's, else that in the font's row.
+fn width(row: &[u16], space: usize, c: u8) -> usize
+    requires { ⌜ (length (now row) ≡ 256) × (space < 4294967296) ⌝ }
+    ensures { λ r. ⌜ (r ≡ widthIn (now (row .entry)) space c) × (r < 4294967296) ⌝ }
+{
+    let at = c as usize;
+    let own = row[at] as usize;
+    if c == 0x40 { space } else { own }
+}
+
+// The widths of some characters together.
+fn total(t: &[u8], row: &[u16], space: usize) -> usize
+    requires { ⌜ (length (now row) ≡ 256) × ((space < 4294967296) × (length (now t) < 65536)) ⌝ }
+    ensures { λ r. ⌜ (r ≡ widthsOf (now (row .entry)) space (now (t .entry))) × (r ≤ 4294967296 * length (now (t .entry))) ⌝ }
+{
+    let mut sum: usize = 0;
+    let mut k: usize = 0;
+    while k < t.len() {
+        sum += width(row, space, t[k]);
+        k += 1;
+    }
+    sum
+}
+
+// The widths of `count` characters of a text that begins again at its end: whole rounds, and a last part of one.
+fn cycle_total(t: &[u8], count: usize, row: &[u16], space: usize) -> usize
+    requires { ⌜ (length (now row) ≡ 256) × ((space < 4294967296) × ((0 < length (now t)) × ((length (now t) < 65536) × (count < 65536)))) ⌝ }
+    ensures { λ r. ⌜ (r ≡ widthsOf (now (row .entry)) space (cycle (now (t .entry)) 0 count)) × (r ≤ 4294967296 * count) ⌝ }
+{
+    let n = t.len();
+    if count == n {
+        return total(t, row, space);
+    }
+    let rounds = count / n;
+    let rest = count % n;
+    rounds * total(t, row, space) + total(&t[..rest], row, space)
+}
+
+// Character by character, 27 before 28.
+fn walk(t: &[u8], row: &[u16], l: Line, start: usize) -> Reached
+    requires { ⌜ (length (now row) ≡ 256) × ((l .space < 4294967296) × ((l .plus < 4294967296) × ((l .minus < 4294967296) × (start < 4294967296)))) ⌝ }
+    ensures { λ r. ⌜ (reached r ≡ along (now (row .entry)) l start (now (t .entry))) × (r .at < 4294967296) ⌝ }
+{
+    let mut i = start;
+    let mut k: usize = 0;
+    while k < t.len() {
+        let end = i + width(row, l.space, t[k]);
+        if l.shown {
+            if i < ORIGIN {
+                return Reached { fault: 27, at: i };
+            }
+            if l.limit < end {
+                return Reached { fault: 27, at: i };
+            }
+        }
+        let to = end + l.plus;
+        if to < l.minus {
+            return Reached { fault: 28, at: i };
+        }
+        let next = to - l.minus;
+        if LAST < next {
+            return Reached { fault: 28, at: i };
+        }
+        i = next;
+        k += 1;
+    }
+    Reached { fault: 0, at: i }
+}
+
+// The same for `count` characters of a text that begins again at its end, a round at a time.
+fn walk_cycle(t: &[u8], count: usize, row: &[u16], l: Line, start: usize) -> Reached
+    requires { ⌜ (length (now row) ≡ 256) × ((l .space < 4294967296) × ((l .plus < 4294967296) × ((l .minus < 4294967296) × ((start < 4294967296) × (0 < length (now t)))))) ⌝ }
+    ensures { λ r. ⌜ (reached r ≡ along (now (row .entry)) l start (cycle (now (t .entry)) 0 count)) × (r .at < 4294967296) ⌝ }
+{
+    let n = t.len();
+    let mut i = start;
+    let mut left = count;
+    while n < left {
+        let r = walk(t, row, l, i);
+        if r.fault != 0 {
+            return r;
+        }
+        i = r.at;
+        left -= n;
+    }
+    walk(&t[..left], row, l, i)
+}
+
+// Where `count` characters of a text leave I. Where the adjustment is not taken off, I does not fall, and the last character's end decides for all.
+pub fn present(t: &[u8], count: usize, row: &[u16], l: Line, start: usize) -> Reached
+    requires { ⌜ (length (now row) ≡ 256) × ((l .space < 4294967296) × ((l .limit < 8589934592) × ((l .plus < 4294967296) × ((l .minus < 4294967296) × ((start < 4294967296) × ((0 < length (now t)) × ((length (now t) < 65536) × (count < 65536)))))))) ⌝ }
+    ensures { λ r. ⌜ (reached r ≡ along (now (row .entry)) l start (cycle (now (t .entry)) 0 count)) × (r .at < 4294967296) ⌝ }
+{
+    if l.minus == 0 {
+        let end = start + cycle_total(t, count, row, l.space) + count * l.plus;
+        if end <= LAST {
+            if !l.shown {
+                return Reached { fault: 0, at: end };
+            }
+            if ORIGIN <= start {
+                if end <= l.limit + l.plus {
+                    return Reached { fault: 0, at: end };
+                }
+            }
+        }
+    }
+    walk_cycle(t, count, row, l, start)
+}

@@ -1,0 +1,53 @@
+// Parameters: bytes, and numbers of two bytes.
+ghost use mathlib.Core.Path.{_≡_};
+ghost use mathlib.Core.Bool.{_&&_, _||_};
+ghost use Prim.Native.Nat.{_≤_, _<_};
+ghost use Rattle.part.specs.Numbers.{byte, word, ones};
+ghost use Rattle.part.specs.Presenting.{default};
+use super::working::ONES;
+
+// Both, or either.
+pub fn both(a: bool, b: bool) -> bool
+    ensures { λ r. ⌜ r ≡ (a && b) ⌝ }
+{
+    if a { b } else { false }
+}
+
+pub fn either(a: bool, b: bool) -> bool
+    ensures { λ r. ⌜ r ≡ (a || b) ⌝ }
+{
+    if a { true } else { b }
+}
+
+// A byte, where a missing one counts as `absent`.
+pub fn byte_at(p: &[u8], at: usize, absent: u8) -> u32
+    ensures { λ r. ⌜ (r ≡ byte absent (now (p .entry)) at) × (r < 256) ⌝ }
+{
+    if at < p.len() {
+        p[at] as u32
+    } else {
+        absent as u32
+    }
+}
+
+// Two bytes, the higher first.
+pub fn word_at(p: &[u8], at: usize, absent: u8) -> u32
+    requires { ⌜ at < 256 ⌝ }
+    ensures { λ r. ⌜ (r ≡ word absent (now (p .entry)) at) × (r < 65536) ⌝ }
+{
+    byte_at(p, at, absent) * 256 + byte_at(p, at + 1, absent)
+}
+
+// All ones mean the other value.
+pub fn or_default(all: u32, v: u32, other: u32) -> u32
+    ensures { λ r. ⌜ r ≡ default all v other ⌝ }
+{
+    if v == all { other } else { v }
+}
+
+// The same number, for sums that cannot wrap.
+pub fn wide(n: u32) -> usize
+    ensures { λ r. ⌜ (r ≡ n) × (r < 4294967296) ⌝ }
+{
+    n as usize
+}
