@@ -1,17 +1,15 @@
--- Bytes of a list: within it, what a missing one counts as doesn't matter.
+-- Bytes of a list: one that is there, and all from an offset on.
 -- Assumes nothing.
-use Prim.Native.Nat.{ℕ, zero, suc, _-_, _<_}
-use mathlib.Core.Path.{_≡_, refl}
-use mathlib.Core.List.{List, [], _∷_}
-use native.Mathlib.Nat.{le-of-suc-le-suc, not-suc-le-zero}
+use Prim.Native.Nat.{ℕ, _-_, _<_}
+use mathlib.Core.Path.{_≡_}
+use mathlib.Core.List.{List}
 use native.Mathlib.Omega.{arith}
 use lib.ListN.{length, take, drop, getD, length-drop}
-use lib.Seq.{take-all}
+use lib.Seq.{take-all, drop-cons}
 
-pub same-within : (l : List ℕ) (k a b : ℕ) → k < length l → getD l k a ≡ getD l k b
-same-within [] k a b h = absurd (not-suc-le-zero h)
-same-within (x ∷ xs) zero a b h = refl
-same-within (x ∷ xs) (suc k) a b h = same-within xs k a b (le-of-suc-le-suc h)
+-- a byte that is there, whatever a missing one counts as
+pub there : (xs : List ℕ) (k a b : ℕ) → k < length xs → getD xs k a ≡ getD xs k b
+there xs k a b h = cc (drop-cons xs k a h, drop-cons xs k b h)
 
 -- all bytes from an offset on, as the code cuts them
 pub tail-of : (l : List ℕ) (k : ℕ) → take (length l - k) (drop k l) ≡ drop k l

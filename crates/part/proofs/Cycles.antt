@@ -1,12 +1,12 @@
 -- The characters of a text that begins again at its end: they come in rounds, each of them the whole text, and a last part of one.
 -- Assumes nothing.
-use Prim.Native.Nat.{ℕ, zero, suc, _+_, _*_, _-_, _%_, _<_, _≤_}
+use Prim.Native.Nat.{ℕ, zero, suc, _+_, _*_, _%_, _<_, _≤_}
 use mathlib.Core.Path.{_≡_, refl, sym, _∙_, ap}
-use mathlib.Core.List.{List, [], _∷_, _++_, append-assoc}
-use native.Mathlib.Nat.{mod-eq-of-lt, mod-self, add-zero, mod-add-mod, add-mod-right, zero-add, suc-add, zero-mul, suc-mul}
+use mathlib.Core.List.{List, [], _++_, append-assoc}
+use native.Mathlib.Nat.{mod-eq-of-lt, add-zero, mod-add-mod, add-mod-right, zero-add, suc-add, zero-mul, suc-mul}
 use native.Mathlib.Numerals.{add-one}
 use native.Mathlib.Omega.{arith}
-use lib.ListN.{length, take, drop, getD}
+use lib.ListN.{length, take, drop}
 use lib.Seq.{drop-cons, take-length}
 use Rattle.part.specs.Text.{cycle}
 
@@ -66,27 +66,3 @@ module _ (t : List ℕ) where
   rounds (suc q) r h =
       let e : suc q * length t + r ≡ length t + (q * length t + r) = rw suc-mul (omega arith) in
       rw (e, round (q * length t + r), rounds q r h) (sym (append-assoc t (times q) (take r t)))
-
-  -- ---- one after the other, with j at number k modulo the length
-
-  -- of those from number k on, to `count`: the one there, and those from the next on
-  pub cycle-next : (count k j : ℕ) → k < count → j ≡ k % length t → cycle t k (count - k) ≡ getD t j 0 ∷ cycle t (k + 1) (count - (k + 1))
-  unfolding cycle
-  cycle-next count k j h e =
-      let more : count - k ≡ suc (count - (k + 1)) = omega arith in
-      rw (more, cycle, e)
-
-  pub cycle-none : (count k : ℕ) → count ≤ k → cycle t k (count - k) ≡ []
-  unfolding cycle
-  cycle-none count k h =
-      let none : count - k ≡ 0 = omega arith in
-      rw (none, cycle)
-
-  -- the next j: one more, and 0 at the text's end
-  pub next-on : (k j : ℕ) → j ≡ k % length t → j + 1 < length t → j + 1 ≡ (k + 1) % length t
-  next-on k j e h = sym (mod-eq-of-lt h) ∙ rw e (mod-add-mod k (length t) 1)
-
-  pub next-again : (k j : ℕ) → j ≡ k % length t → j + 1 ≡ length t → 0 ≡ (k + 1) % length t
-  next-again k j e h =
-      let w : (j + 1) % length t ≡ 0 = rw h (mod-self (length t)) in
-      sym w ∙ rw e (mod-add-mod k (length t) 1)

@@ -2,56 +2,82 @@
 -- Assumes nothing.
 use Prim.Native.Nat.{ℕ, zero, suc, _+_, _*_, _-_, _/_, _%_, _<_, _≤_}
 use mathlib.Core.Path.{_≡_, refl, sym, _∙_, ap}
-use mathlib.Core.Bool.{true, false, not, _&&_, _||_, or-true, and-false}
+use mathlib.Core.Bool.{Bool, true, false, not, _&&_, _||_, or-true, and-false}
 use mathlib.Core.List.{List, [], _∷_, _++_}
 use mathlib.Core.Logic.{_⊎_, inl, inr, ⊎-elim}
-use native.Mathlib.Nat.{zero-add, suc-mul, zero-mul, add-assoc, mul-le-mul-left, mul-left-comm, mul-add, div-add-mod', mod-lt}
+use native.Mathlib.Nat.{zero-add, suc-mul, mul-suc, zero-mul, add-assoc, mul-le-mul-left, mul-le-mul-right, le-of-lt, mul-left-comm, mul-add, div-add-mod', mod-lt}
 use native.Mathlib.Numerals.{add-one}
 use native.Mathlib.Omega.{arith}
-use borrow.Author.Tests.{le-leb, lt-leb}
+use borrow.Author.Tests.{le-leb, lt-leb, eqb-true}
 use lib.ListN.{length, take, getD, drop, drop-of-length-le}
 use lib.Seq.{drop-cons, length-take-le}
-use lib.Dec.{leb}
-use Rattle.part.specs.Numbers.{origin, last}
+use lib.Dec.{leb, eqb}
+use Rattle.part.specs.Numbers.{if_then_else_, origin, last}
 use Rattle.part.specs.Checks.{Checked, fine, fault, _>>=_}
 use Rattle.part.specs.Presenting.{moved}
 use Rattle.part.specs.Text.{cycle}
-use Rattle.part.specs.Code.{verdict, reached, widthIn, stepped, along, widthsOf}
+use Rattle.part.specs.Code.{verdict, reached, widthIn, stepped, along, sumOf, widthsOf, rowWidths, isSpace, spacesIn}
 use Rattle.part.specs.declared.text.Line.{Line}
 use Rattle.part.specs.declared.text.Reached.{Reached}
 use Rattle.part.proofs.Checks.{after, regrouped}
 use Rattle.part.proofs.Cycles.{length-cycle, times, round, rounds}
 
--- ---- widths together
+-- ---- a number for each character, together
 
-module _ (row : List ℕ) (space : ℕ) where
-  pub widths-then : (a b : List ℕ) → widthsOf row space (a ++ b) ≡ widthsOf row space a + widthsOf row space b
-  unfolding widthsOf
-  widths-then [] b = sym (zero-add (widthsOf row space b))
-  widths-then (c ∷ a) b = rw (widths-then a b) (sym (add-assoc (widthIn row space c) (widthsOf row space a) (widthsOf row space b)))
+module _ (f : ℕ → ℕ) where
+  pub sum-then : (a b : List ℕ) → sumOf f (a ++ b) ≡ sumOf f a + sumOf f b
+  unfolding sumOf
+  sum-then [] b = sym (zero-add (sumOf f b))
+  sum-then (c ∷ a) b = rw (sum-then a b) (sym (add-assoc (f c) (sumOf f a) (sumOf f b)))
 
-  pub widths-times : (t : List ℕ) (q : ℕ) → widthsOf row space (times t q) ≡ q * widthsOf row space t
-  unfolding widthsOf
-  widths-times t zero = sym (zero-mul (widthsOf row space t))
-  widths-times t (suc q) = rw (widths-then t (times t q), widths-times t q, suc-mul) (omega arith)
+  pub sum-times : (t : List ℕ) (q : ℕ) → sumOf f (times t q) ≡ q * sumOf f t
+  unfolding sumOf
+  sum-times t zero = sym (zero-mul (sumOf f t))
+  sum-times t (suc q) = rw (sum-then t (times t q), sum-times t q, suc-mul) (omega arith)
 
-  -- of a text that begins again at its end: its widths for each whole round, and those of a last part of one
-  pub widths-cycle : (t : List ℕ) (count : ℕ) → 0 < length t → widthsOf row space (cycle t 0 count) ≡ count / length t * widthsOf row space t + widthsOf row space (take (count % length t) t)
-  widths-cycle t count h =
+  -- of a text that begins again at its end: the text's for each whole round, and those of a last part of one
+  pub sum-cycle : (t : List ℕ) (count : ℕ) → 0 < length t → sumOf f (cycle t 0 count) ≡ count / length t * sumOf f t + sumOf f (take (count % length t) t)
+  sum-cycle t count h =
       let q = count / length t in
       let rest = take (count % length t) t in
       let part : count % length t < length t = mod-lt count h in
       let all : cycle t 0 count ≡ times t q ++ rest = ap (cycle t 0) (sym (div-add-mod' count (length t))) ∙ rounds t q (count % length t) (omega arith) in
-      rw (all, widths-then (times t q) rest, widths-times t q)
+      rw (all, sum-then (times t q) rest, sum-times t q)
 
   -- those from number k on
-  pub widths-rest : (t : List ℕ) (k : ℕ) → k < length t → widthsOf row space (drop k t) ≡ widthIn row space (getD t k 0) + widthsOf row space (drop (k + 1) t)
-  unfolding widthsOf
-  widths-rest t k h = rw (add-one, drop-cons t k 0 h)
+  pub sum-rest : (t : List ℕ) (k : ℕ) → k < length t → sumOf f (drop k t) ≡ f (getD t k 0) + sumOf f (drop (k + 1) t)
+  unfolding sumOf
+  sum-rest t k h = rw (add-one, drop-cons t k 0 h)
 
-  pub widths-none : (t : List ℕ) (k : ℕ) → length t ≤ k → widthsOf row space (drop k t) ≡ 0
-  unfolding widthsOf
-  widths-none t k h = rw (drop-of-length-le t h)
+  pub sum-none : (t : List ℕ) (k : ℕ) → length t ≤ k → sumOf f (drop k t) ≡ 0
+  unfolding sumOf
+  sum-none t k h = rw (drop-of-length-le t h)
+
+  pub sum-bound : (b : ℕ) → ((c : ℕ) → f c ≤ b) → (t : List ℕ) → sumOf f t ≤ b * length t
+  unfolding sumOf
+  sum-bound b h [] = omega arith
+  sum-bound b h (c ∷ t) = rw mul-suc (omega (arith, h c, sum-bound b h t))
+
+-- Spaces counted apart: each takes the line's width for the row's.
+pub spaces-apart : (row : List ℕ) (space : ℕ) (t : List ℕ) → widthsOf row space t + spacesIn t * getD row 0x40 0 ≡ rowWidths row t + spacesIn t * space
+unfolding sumOf
+spaces-apart row space [] = omega arith
+spaces-apart row space (c ∷ t) = go (eqb c 0x40) refl (spaces-apart row space t)
+  where
+    go : (b : Bool) → eqb c 0x40 ≡ b → widthsOf row space t + spacesIn t * getD row 0x40 0 ≡ rowWidths row t + spacesIn t * space
+        → (widthIn row space c + widthsOf row space t) + (isSpace c + spacesIn t) * getD row 0x40 0 ≡ (getD row c 0 + rowWidths row t) + (isSpace c + spacesIn t) * space
+    go true e later =
+        let n : 1 + spacesIn t ≡ suc (spacesIn t) = omega arith in
+        rw (e, eqb-true c 0x40 e, n, suc-mul) (omega arith)
+    go false e later =
+        let n : 0 + spacesIn t ≡ spacesIn t = omega arith in
+        rw (e, n) (omega arith)
+
+-- a count of at most 65,535 times a width fits
+pub product-fits : (n v : ℕ) → n < 65536 → v < 4294967296 → n * v < 281474976710656
+product-fits n v h k =
+    let p = mul-le-mul-right v (le-of-lt h) in
+    omega arith
 
 -- what bounds a round, and a last part of one, by their characters bounds all
 pub rounds-bound : (t : List ℕ) (count v w b : ℕ) → 0 < length t → v ≤ b * length t → w ≤ b * length (take (count % length t) t) → count / length t * v + w ≤ b * count
@@ -145,7 +171,7 @@ module _ (row : List ℕ) (l : Line) where
 
   -- From where a level line begins, its characters take it to its end.
   pub level : (i end : ℕ) (cs : List ℕ) → l .minus ≡ 0 → i + widthsOf row (l .space) cs + length cs * l .plus ≡ end → end ≤ last → Clear l i end → along row l i cs ≡ fine end
-  unfolding along widthsOf
+  unfolding along sumOf
   level i end [] z e m clear =
       let sum : i + 0 + 0 ≡ end = rw zero-mul at e in
       ap fine (omega arith)
@@ -160,3 +186,30 @@ module _ (row : List ℕ) (l : Line) where
   pub level-cycle : (t : List ℕ) (i count total : ℕ) → total ≡ widthsOf row (l .space) (cycle t 0 count) → l .minus ≡ 0 → i + total + count * l .plus ≤ last → Clear l i (i + total + count * l .plus) → along row l i (cycle t 0 count) ≡ fine (i + total + count * l .plus)
   level-cycle t i count total e z m clear =
       level i (i + total + count * l .plus) (cycle t 0 count) z (rw (← e, length-cycle t 0 count)) m clear
+
+pub space-most : (c : ℕ) → isSpace c ≤ 1
+space-most c = go (eqb c 0x40)
+  where
+    go : (t : Bool) → (if t then 1 else 0) ≤ 1
+    go true = omega arith
+    go false = omega arith
+
+pub width-most : (row : List ℕ) (space : ℕ) → ((k : ℕ) → getD row k 0 < 65536) → space < 4294967296 → (c : ℕ) → widthIn row space c < 4294967296
+width-most row space h k c = go (eqb c 0x40)
+  where
+    go : (t : Bool) → (if t then space else getD row c 0) < 4294967296
+    go true = omega arith
+    go false = omega (arith, h c)
+
+-- a width by products: X'40' takes the line's, any other the row's
+pub record Picked (own space n v : ℕ) : Type 0 where
+  pub value : own * (1 - n) + space * n ≡ v
+  pub row : own * (1 - n) ≤ own
+  pub line : space * n ≤ space
+
+pub picked : (row : List ℕ) (space c : ℕ) → Picked (getD row c 0) space (isSpace c) (widthIn row space c)
+picked row space c = go (eqb c 0x40)
+  where
+    go : (t : Bool) → Picked (getD row c 0) space (if t then 1 else 0) (if t then space else getD row c 0)
+    go true = record { value = omega arith; row = omega arith; line = omega arith }
+    go false = record { value = omega arith; row = omega arith; line = omega arith }

@@ -7,7 +7,7 @@ use mathlib.Core.List.{List, [], _∷_, _++_}
 use native.Mathlib.Omega.{arith}
 use native.Mathlib.Nat.{le-refl, not-suc-le-zero}
 use lib.ListN.{length, getD, drop, length-append, length-drop, List·getD-append}
-use lib.Seq.{take-append-le, drop-append-le, drop-cons}
+use lib.Seq.{take-append-le, drop-append-le}
 use lib.Dec.{leb, eqb}
 use borrow.Author.Tests.{leb-true, le-leb, eqb-false}
 use Rattle.part.specs.Numbers.{if_then_else_}
@@ -97,10 +97,6 @@ stretch-some [] h q = absurd (not-suc-le-zero h)
 stretch-some (x ∷ xs) h q = rw q (omega arith)
 
 -- ---- elements
-
--- a byte that is there, whatever a missing one counts as
-pub there : (xs : List ℕ) (k a b : ℕ) → k < length xs → getD xs k a ≡ getD xs k b
-there xs k a b h = cc (drop-cons xs k a h, drop-cons xs k b h)
 
 -- while no chain is open, bytes without 2B are one free run, which goes on to their end
 abbrev pub runsOut : ℕ → List ℕ → Bool

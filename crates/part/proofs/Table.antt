@@ -2,16 +2,11 @@
 -- Assumes nothing.
 use Prim.Native.Nat.{ℕ, zero, suc, _<_}
 use mathlib.Core.Path.{_≡_, refl}
-use mathlib.Core.List.{List, [], _∷_}
 use native.Mathlib.Nat.{le-of-suc-le-suc, not-suc-le-zero}
 use lib.ListN.{getD}
+use Rattle.part.specs.Code.{listed}
 
-module _ {A : Type 0} where
-  abbrev pub listed : (ℕ → A) → ℕ → List A
-  listed rule zero = []
-  listed rule (suc n) = rule 0 ∷ listed (λ k. rule (suc k)) n
-
-  pub at : (rule : ℕ → A) (n k : ℕ) (d : A) → k < n → getD (listed rule n) k d ≡ rule k
-  at rule zero k d h = absurd (not-suc-le-zero h)
-  at rule (suc n) zero d h = refl
-  at rule (suc n) (suc k) d h = at (λ j. rule (suc j)) n k d (le-of-suc-le-suc h)
+pub at : {A : Type 0} (rule : ℕ → A) (n k : ℕ) (d : A) → k < n → getD (listed rule n) k d ≡ rule k
+at rule zero k d h = absurd (not-suc-le-zero h)
+at rule (suc n) zero d h = refl
+at rule (suc n) (suc k) d h = at (λ j. rule (suc j)) n k d (le-of-suc-le-suc h)

@@ -50,9 +50,6 @@ bytes-take (suc n) [] h k = omega arith
 bytes-take (suc n) (c ∷ cs) h zero = h 0
 bytes-take (suc n) (c ∷ cs) h (suc k) = bytes-take n cs (λ j. h (suc j)) k
 
-pub bytes-drop : (n : ℕ) (cs : List ℕ) → Bytes cs → Bytes (drop n cs)
-bytes-drop n cs h k = rw (getD-drop n cs k 0) (h (n + k))
-
 -- the characters of a text that begins again are its own
 pub bytes-cycle : (t : List ℕ) (i m : ℕ) → Bytes t → Bytes (cycle t i m)
 unfolding cycle

@@ -91,10 +91,6 @@ unfolding placed place
 text-placed widths d s t n e = rw (e, once t)
 
 -- a state's verdict tells the effect's
-pub effect-fine : (t : State) (q : Checked Effect) → fine t ≡ stateAfter q → (g : Effect) × (q ≡ fine g) × (g .state ≡ t)
-effect-fine t (fine g) e = (g, refl, cc)
-effect-fine t (fault code at) e = absurd (let z : _≡_ {A = ℕ} 0 1 = cc in omega arith)
-
 pub effect-fault : (code j : ℕ) (q : Checked Effect) → fault code j ≡ stateAfter q → q ≡ fault code j
 effect-fault code j (fine g) e = cc
 effect-fault code j (fault c k) e = cc

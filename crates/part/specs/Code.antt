@@ -1,5 +1,5 @@
 -- How the code's numbers stand for the rule book's values: what the contracts inside this crate cite, and no rule.
-use Prim.Native.Nat.{ℕ, zero, suc, _+_, _/_, _%_, _<_, _≤_}
+use Prim.Native.Nat.{ℕ, zero, suc, _+_, _*_, _/_, _%_, _<_, _≤_}
 use mathlib.Core.Path.{_≡_}
 use mathlib.Core.Bool.{Bool, true, not, _&&_, _||_}
 use mathlib.Core.List.{List, [], _∷_, _++_}
@@ -44,6 +44,17 @@ lengthsIn (fault code at) = all 0 0
 
 abbrev pub lengthsOf : ℕ → Lengths
 lengthsOf code = lengthsIn (rowOf types code)
+
+-- the code's table: for each even TYPE its four LENGTHs, a byte each, in one number
+abbrev pub packed : Lengths → ℕ
+packed ns = ns .least + ns .greatest * 256 + ns .holefrom * 65536 + ns .holeto * 16777216
+
+abbrev pub listed : {A : Type 0} → (ℕ → A) → ℕ → List A
+listed rule zero = []
+listed rule (suc n) = rule 0 ∷ listed (λ k. rule (suc k)) n
+
+unfoldable pub rows : List ℕ
+rows = listed (λ half. packed (lengthsOf (half * 2))) 128
 
 -- ---- the element reader
 
@@ -139,9 +150,23 @@ module _ (row : List ℕ) (l : Line) where
   along i [] = fine i
   along i (c ∷ cs) = stepped i (widthIn row (l .space) c) >>= λ j. along j cs
 
-unfoldable pub widthsOf : List ℕ → ℕ → List ℕ → ℕ
-widthsOf row space [] = 0
-widthsOf row space (c ∷ cs) = widthIn row space c + widthsOf row space cs
+-- a number for each of some characters, together
+unfoldable pub sumOf : (ℕ → ℕ) → List ℕ → ℕ
+sumOf f [] = 0
+sumOf f (c ∷ cs) = f c + sumOf f cs
+
+-- their widths; those in the row alone, and how many are X'40'
+abbrev pub widthsOf : List ℕ → ℕ → List ℕ → ℕ
+widthsOf row space = sumOf (widthIn row space)
+
+abbrev pub rowWidths : List ℕ → List ℕ → ℕ
+rowWidths row = sumOf (λ c. getD row c 0)
+
+abbrev pub isSpace : ℕ → ℕ
+isSpace c = if eqb c 0x40 then 1 else 0
+
+abbrev pub spacesIn : List ℕ → ℕ
+spacesIn = sumOf isSpace
 
 -- ---- records
 

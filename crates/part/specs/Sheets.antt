@@ -46,25 +46,30 @@ descriptor = record {
 abbrev pub fresh : State
 fresh = state (point origin origin) 0 240 0 0 0 0xFF07 ones 0 0 0
 
--- all widths; the part before, and the part; its answer; the place after it, and the characters that it shows
+-- all widths; the part before and its answer; the part and its answer; the place after it, and the characters that it shows
 pub record Sheet : Type 0 where
   pub width : ℕ
   pub earlier : List ℕ
+  pub first : Answer
   pub part : List ℕ
   pub answer : Answer
   pub i : ℕ
   pub b : ℕ
   pub shown : List ℕ
 
-abbrev pub sheet : ℕ → List ℕ → List ℕ → Answer → ℕ → ℕ → List ℕ → Sheet
-sheet width earlier part a i b shown = record { width = width; earlier = earlier; part = part; answer = a; i = i; b = b; shown = shown }
+abbrev pub sheet : ℕ → List ℕ → Answer → List ℕ → Answer → ℕ → ℕ → List ℕ → Sheet
+sheet width earlier first part a i b shown = record { width = width; earlier = earlier; first = first; part = part; answer = a; i = i; b = b; shown = shown }
+
+-- the answer to no part before it: an empty one
+abbrev pub none : Answer
+none = answer 0 0 0
 
 -- a row of one part that is done, and of one that is refused
 abbrev pub done : ℕ → ℕ → ℕ → ℕ → ℕ → List ℕ → Sheet
-done part elements added i b shown = sheet 144 [] (hex part) (answer 0 elements added) i b shown
+done part elements added i b shown = sheet 144 [] none (hex part) (answer 0 elements added) i b shown
 
 abbrev pub refused : ℕ → ℕ → ℕ → Sheet
-refused part code at = sheet 144 [] (hex part) (answer code at 0) 0 0 []
+refused part code at = sheet 144 [] none (hex part) (answer code at 0) 0 0 []
 
 unfoldable pub sheets : List Sheet
 sheets =
@@ -83,10 +88,10 @@ sheets =
     ∷ refused 0x2BD303F405 26 0
     ∷ refused 0x2BD304C880002BD304C88000 28 6
     ∷ done 0x2BD307E405A0000E00 1 16 0 0 []
-    ∷ sheet 144 (hex 0x2BD302D9) (hex 0x02D8) (answer 0 1 0) 0 480 []
-    ∷ sheet 144 (hex 0x2BD302D9) (hex 0x2BD302D8) (answer 22 0 0) 0 240 []
-    ∷ sheet 0 [] (hex 0x2BD305EE0FF0C1) (answer 0 1 4096) 0 0 (replicate 0xFF0 0xC1)
-    ∷ sheet 0 [] (hex 0x2BD305EE0FF1C1) (answer 29 0 0) 0 0 []
+    ∷ sheet 144 (hex 0x2BD302D9) (answer 0 1 0) (hex 0x02D8) (answer 0 1 0) 0 480 []
+    ∷ sheet 144 (hex 0x2BD302D9) (answer 0 1 0) (hex 0x2BD302D8) (answer 22 0 0) 0 240 []
+    ∷ sheet 0 [] none (hex 0x2BD305EE0FF0C1) (answer 0 1 4096) 0 0 (replicate 0xFF0 0xC1)
+    ∷ sheet 0 [] none (hex 0x2BD305EE0FF1C1) (answer 29 0 0) 0 0 []
     ∷ done 0x2BD304C702D004D201E0C1C2 3 18 1008 480 (hex 0xC1C2)
     ∷ []
 
@@ -106,8 +111,8 @@ further =
     ∷ done 0x2BD304E40000 1 16 0 0 []
     ∷ refused 0x2BD303F30103F202 26 5
     ∷ done 0x2BD304C7000104C8FFFF 2 0 0 0 []
-    ∷ sheet 144 (hex 0x2BD302D9) [] (answer 0 0 0) 0 240 []
-    ∷ sheet 144 (hex 0x2BD302D9) (hex 0x02) (answer 20 0 0) 0 240 []
+    ∷ sheet 144 (hex 0x2BD302D9) (answer 0 1 0) [] (answer 0 0 0) 0 240 []
+    ∷ sheet 144 (hex 0x2BD302D9) (answer 0 1 0) (hex 0x02) (answer 20 0 0) 0 240 []
     ∷ []
 
 -- the characters of some items
@@ -128,12 +133,12 @@ found s =
     let before = interpreted widths descriptor fresh (s .earlier) empty in
     let area = areaAfter widths descriptor fresh (s .earlier) empty in
     let after = interpreted widths descriptor (before .state) (s .part) area in
-    sheet (s .width) (s .earlier) (s .part) (after .answer) (after .state .at .i) (after .state .at .b)
+    sheet (s .width) (s .earlier) (before .answer) (s .part) (after .answer) (after .state .at .i) (after .state .at .b)
     (shownOf (outcome widths descriptor (before .state) (s .part) area))
 
 -- the same sheet, its place as it is kept
 abbrev pub kept : Sheet → Sheet
-kept s = sheet (s .width) (s .earlier) (s .part) (s .answer) (origin + s .i) (origin + s .b) (s .shown)
+kept s = sheet (s .width) (s .earlier) (s .first) (s .part) (s .answer) (origin + s .i) (origin + s .b) (s .shown)
 
 pub sheets-hold : map found sheets ≡ map kept sheets
 unfolding sheets found descriptorFields stateFields types sequence element cutFrom cut bytesOf moved character characters cycle placeText placeRule place placed passed elements admitted outcome interpreted areaAfter

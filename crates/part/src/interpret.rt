@@ -1,9 +1,8 @@
 // One part of presentation text, all of it or nothing.
 ghost use mathlib.Core.Path.{_≡_};
-ghost use Prim.Native.Nat.{_≤_, _<_};
-ghost use lib.ListN.{length};
+ghost use Prim.Native.Nat.{_<_};
 ghost use Rattle.part.specs.Part.{interpreted, areaAfter};
-ghost use Rattle.part.specs.Code.{verdict, admittedBy};
+ghost use Rattle.part.specs.Code.{verdict, stateOf, admittedBy};
 use super::ranges::descriptor_holds;
 use super::ranges::state_holds;
 use super::record::store;
@@ -13,6 +12,7 @@ use super::shapes::Descriptor;
 use super::shapes::Interpreted;
 use super::shapes::Point;
 use super::shapes::State;
+use super::types::TYPES;
 use super::values::both;
 use super::values::wide;
 
@@ -34,6 +34,25 @@ fn admit(part: usize, widths: usize, area: usize, d: Descriptor, s: State) -> u3
         return 19;
     }
     0
+}
+
+// The state that a working state has come to.
+fn state_of(w: &[u32; 12]) -> State
+    ensures { λ r. ⌜ r ≡ stateOf (now (w .entry)) ⌝ }
+{
+    State {
+        at: Point { i: w[0], b: w[1] },
+        margin: w[2],
+        increment: w[3],
+        adjustment: w[4],
+        direction: w[5],
+        font: w[6],
+        colour: w[7],
+        space: w[8],
+        suppression: w[9],
+        chain: w[10],
+        used: w[11],
+    }
 }
 
 // A refusal hands the starting state back.
@@ -80,32 +99,23 @@ pub fn interpret(
         s.used,
     ];
     let mut scratch = [0u8; 4096];
-    let r = run(part, widths, &mut scratch, d, &mut w);
+    let types = TYPES;
+    let r = run(&types, part, widths, &mut scratch, d, &mut w);
     if r.fault != 0 {
         let at = r.at as u32;
         return refusal(r.fault % 256, at + r.fault / 256, s);
     }
     let from = wide(s.used);
     let to = wide(w[11]);
+    let first = r.count as u32;
+    let second = (to - from) as u32;
     store(area, from, &scratch[from..to]);
     Interpreted {
         answer: Answer {
             code: 0,
-            first: r.count as u32,
-            second: (to - from) as u32,
+            first,
+            second,
         },
-        state: State {
-            at: Point { i: w[0], b: w[1] },
-            margin: w[2],
-            increment: w[3],
-            adjustment: w[4],
-            direction: w[5],
-            font: w[6],
-            colour: w[7],
-            space: w[8],
-            suppression: w[9],
-            chain: w[10],
-            used: w[11],
-        },
+        state: state_of(&w),
     }
 }

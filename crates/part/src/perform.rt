@@ -1,6 +1,6 @@
 // A control sequence performed: its values tested, and its effect on the working state and the records.
 ghost use mathlib.Core.Path.{_≡_};
-ghost use Prim.Native.Nat.{_+_, _≤_, _<_};
+ghost use Prim.Native.Nat.{_<_};
 ghost use lib.ListN.{length, getD};
 ghost use Rattle.part.specs.Code.{verdict, stateOf, stateAfter, inked, repeating, performed, Ready};
 use super::moves::absolute_move;

@@ -4,9 +4,6 @@ ghost use mathlib.Core.Bool.{_&&_, not};
 ghost use Prim.Native.Nat.{_+_};
 ghost use lib.Dec.{eqb, leb};
 ghost use Rattle.part.specs.Numbers.{origin};
-ghost use Rattle.part.specs.States.{point};
-ghost use Rattle.part.specs.Presenting.{onSheet};
-use super::shapes::Descriptor;
 use super::values::both;
 
 // As `working::ORIGIN`, for sums.

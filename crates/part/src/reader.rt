@@ -1,9 +1,10 @@
 // The element reader: what stands at the start of the bytes that are left.
 ghost use mathlib.Core.Path.{_≡_};
+ghost use mathlib.Core.Bool.{true};
 ghost use Prim.Native.Nat.{_+_, _≤_, _<_};
-ghost use lib.ListN.{length};
+ghost use lib.ListN.{length, drop};
 ghost use Rattle.part.specs.Reading.{stretch, sequence, element};
-ghost use Rattle.part.specs.Code.{foundBy, Within};
+ghost use Rattle.part.specs.Code.{rows, foundBy, Within};
 use super::types::lengths_of;
 use super::types::split;
 use super::types::takes;
@@ -23,11 +24,42 @@ pub enum Read {
     Refused(u32),
 }
 
+// Whether none of 16 bytes is X'2B'.
+fn is_clear(block: &[u8]) -> bool
+    requires { ⌜ length (now block) ≡ 16 ⌝ }
+    ensures { λ r. ⌜ (r ≡ true → stretch (now (block .entry)) ≡ 16) ⌝ }
+{
+    let mut clear = true;
+    let mut k: usize = 0;
+    while k < 16 {
+        if block[k] == 0x2B {
+            clear = false;
+        }
+        k += 1;
+    }
+    clear
+}
+
+// How many bytes from the start have no X'2B', by whole blocks.
+fn clear_blocks(bytes: &[u8]) -> usize
+    ensures { λ r. ⌜ (r ≤ length (now (bytes .entry))) × (r + stretch (drop r (now (bytes .entry))) ≡ stretch (now (bytes .entry))) ⌝ }
+{
+    let mut k: usize = 0;
+    while 16 <= bytes.len() - k {
+        let past = k + 16;
+        if !is_clear(&bytes[k..past]) {
+            return k;
+        }
+        k = past;
+    }
+    k
+}
+
 // How many bytes come before the next X'2B'.
 fn run_length(bytes: &[u8]) -> usize
     ensures { λ r. ⌜ r ≡ stretch (now (bytes .entry)) ⌝ }
 {
-    let mut k: usize = 0;
+    let mut k = clear_blocks(bytes);
     while k < bytes.len() {
         if bytes[k] == 0x2B {
             return k;
@@ -38,8 +70,8 @@ fn run_length(bytes: &[u8]) -> usize
 }
 
 // The sequence whose LENGTH and TYPE stand at `at`, behind the prefix or in a chain.
-fn read_sequence(bytes: &[u8], at: usize) -> Read
-    requires { ⌜ at ≤ 2 ⌝ }
+fn read_sequence(types: &[u32; 128], bytes: &[u8], at: usize) -> Read
+    requires { ⌜ (now types ≡ rows) × (at ≤ 2) ⌝ }
     ensures { λ r. ⌜ (foundBy (now (bytes .entry)) r ≡ sequence at (now (bytes .entry))) × Within (length (now (bytes .entry))) r ⌝ }
 {
     let from = at + 2;
@@ -52,7 +84,7 @@ fn read_sequence(bytes: &[u8], at: usize) -> Read
     }
     let second = bytes[at + 1];
     let kind = split(second);
-    let known = lengths_of(second);
+    let known = lengths_of(types, second);
     if known.greatest == 0 {
         return Read::Refused(23);
     }
@@ -63,21 +95,22 @@ fn read_sequence(bytes: &[u8], at: usize) -> Read
     if bytes.len() < size {
         return Read::Refused(20);
     }
+    let chains = kind.chains as u32;
     Read::Sequence {
         function: kind.function,
         from,
         size,
-        chains: kind.chains as u32,
+        chains,
     }
 }
 
 // The element at the start of some bytes.
-pub fn read_element(bytes: &[u8], chain: u32) -> Read
-    requires { ⌜ 0 < length (now bytes) ⌝ }
+pub fn read_element(types: &[u32; 128], bytes: &[u8], chain: u32) -> Read
+    requires { ⌜ (now types ≡ rows) × (0 < length (now bytes)) ⌝ }
     ensures { λ r. ⌜ (foundBy (now (bytes .entry)) r ≡ element chain (now (bytes .entry))) × Within (length (now (bytes .entry))) r ⌝ }
 {
     if chain == 1 {
-        return read_sequence(bytes, 0);
+        return read_sequence(types, bytes, 0);
     }
     if bytes[0] != 0x2B {
         return Read::Run(run_length(bytes));
@@ -87,5 +120,5 @@ pub fn read_element(bytes: &[u8], chain: u32) -> Read
             return Read::Refused(21);
         }
     }
-    read_sequence(bytes, 2)
+    read_sequence(types, bytes, 2)
 }

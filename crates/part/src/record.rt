@@ -1,7 +1,8 @@
 // Records: their first sixteen bytes, and bytes stored one after the other.
 ghost use mathlib.Core.Path.{_≡_};
+ghost use mathlib.Core.Logic.{_⊎_};
 ghost use Prim.Native.Nat.{_+_, _≤_, _<_};
-ghost use lib.ListN.{length};
+ghost use lib.ListN.{length, take, drop};
 ghost use lib.Seq.{sets};
 ghost use Rattle.part.specs.Numbers.{little};
 ghost use Rattle.part.specs.Text.{cycle};
@@ -55,20 +56,35 @@ pub fn store(area: &mut [u8], at: usize, bytes: &[u8])
     }
 }
 
-// Stores `count` characters of a text that begins again at its end.
-fn store_cycle(area: &mut [u8], at: usize, text: &[u8], count: usize)
-    requires { ⌜ (at + count ≤ length (now area)) × (0 < length (now text)) ⌝ }
-    ensures { λ _. ⌜ now (area .exit) ≡ sets (now (area .entry)) at (cycle (now (text .entry)) 0 count) ⌝ }
+// Copies bytes of an area to further on in it.
+fn copy_on(area: &mut [u8], from: usize, to: usize, n: usize)
+    requires { ⌜ (from + n ≤ to) × (to + n ≤ length (now area)) ⌝ }
+    ensures { λ _. ⌜ now (area .exit) ≡ sets (now (area .entry)) to (take n (drop from (now (area .entry)))) ⌝ }
 {
     let mut k: usize = 0;
-    let mut j: usize = 0;
-    while k < count {
-        area[at + k] = text[j];
+    while k < n {
+        area[to + k] = area[from + k];
         k += 1;
-        j += 1;
-        if j == text.len() {
-            j = 0;
-        }
+    }
+}
+
+fn lesser(a: usize, b: usize) -> usize
+    ensures { λ r. ⌜ (r ≤ a) × ((r ≤ b) × ((r ≡ a) ⊎ (r ≡ b))) ⌝ }
+{
+    if a < b { a } else { b }
+}
+
+// Stores `count` characters, more than one round of a text that begins again at its end: one round, and then what is there once more, as long as it lasts.
+fn store_rounds(area: &mut [u8], at: usize, text: &[u8], count: usize)
+    requires { ⌜ (at + count ≤ length (now area)) × ((0 < length (now text)) × (length (now text) ≤ count)) ⌝ }
+    ensures { λ _. ⌜ now (area .exit) ≡ sets (now (area .entry)) at (cycle (now (text .entry)) 0 count) ⌝ }
+{
+    store(area, at, text);
+    let mut done = text.len();
+    while done < count {
+        let more = lesser(done, count - done);
+        copy_on(area, at, at + done, more);
+        done += more;
     }
 }
 
@@ -77,9 +93,9 @@ pub fn draw(area: &mut [u8], at: usize, text: &[u8], count: usize)
     requires { ⌜ (at + count ≤ length (now area)) × (0 < length (now text)) ⌝ }
     ensures { λ _. ⌜ now (area .exit) ≡ sets (now (area .entry)) at (cycle (now (text .entry)) 0 count) ⌝ }
 {
-    if count == text.len() {
-        store(area, at, text);
+    if count <= text.len() {
+        store(area, at, &text[..count]);
         return;
     }
-    store_cycle(area, at, text, count);
+    store_rounds(area, at, text, count);
 }

@@ -1,6 +1,6 @@
 // Modal values, and suppressions.
 ghost use mathlib.Core.Path.{_≡_};
-ghost use Prim.Native.Nat.{_≤_, _<_};
+ghost use Prim.Native.Nat.{_<_};
 ghost use lib.ListN.{length};
 ghost use Rattle.part.specs.Ranges.{upTo, colours, _∈_};
 ghost use Rattle.part.specs.Code.{verdict};

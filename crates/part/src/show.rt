@@ -7,7 +7,7 @@ ghost use lib.ListN.{length, getD};
 ghost use Rattle.part.specs.Numbers.{if_then_else_, origin, ones};
 ghost use Rattle.part.specs.Presenting.{default, hides};
 ghost use Rattle.part.specs.Text.{cycle, characters};
-ghost use Rattle.part.specs.Place.{shownText, placeText};
+ghost use Rattle.part.specs.Place.{placeText};
 ghost use Rattle.part.specs.Part.{roomed};
 ghost use Rattle.part.specs.Code.{verdict, reached, stateOf, stateAfter, inked, advanced, baseline, Bounded, Ready};
 use super::presenting::is_hidden;

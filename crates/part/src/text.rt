@@ -1,10 +1,9 @@
 // Characters along the line: where they leave I, or the first that is refused.
 ghost use mathlib.Core.Path.{_≡_};
-ghost use mathlib.Core.Bool.{true, false};
 ghost use Prim.Native.Nat.{_+_, _*_, _≤_, _<_};
 ghost use lib.ListN.{length};
 ghost use Rattle.part.specs.Text.{cycle};
-ghost use Rattle.part.specs.Code.{reached, widthIn, along, widthsOf};
+ghost use Rattle.part.specs.Code.{reached, widthIn, along, rowWidths, isSpace, spacesIn, widthsOf};
 
 const ORIGIN: usize = 32768;
 
@@ -25,28 +24,65 @@ pub struct Reached {
     pub at: usize,
 }
 
-// The width of a character: of X'40' the line's, else that in the font's row.
+// 1 for X'40', else 0.
+fn is_space(c: u8) -> u32
+    ensures { λ r. ⌜ r ≡ isSpace c ⌝ }
+{
+    if c == 0x40 { 1 } else { 0 }
+}
+
+// The width of a character: of X'40' the line's, else that in the font's row. A product instead of a branch, which spaces would mislead.
 fn width(row: &[u16], space: usize, c: u8) -> usize
     requires { ⌜ (length (now row) ≡ 256) × (space < 4294967296) ⌝ }
     ensures { λ r. ⌜ (r ≡ widthIn (now (row .entry)) space c) × (r < 4294967296) ⌝ }
 {
     let at = c as usize;
     let own = row[at] as usize;
-    if c == 0x40 { space } else { own }
+    let n = is_space(c) as usize;
+    own * (1 - n) + space * n
 }
 
-// The widths of some characters together.
-fn total(t: &[u8], row: &[u16], space: usize) -> usize
-    requires { ⌜ (length (now row) ≡ 256) × ((space < 4294967296) × (length (now t) < 65536)) ⌝ }
-    ensures { λ r. ⌜ (r ≡ widthsOf (now (row .entry)) space (now (t .entry))) × (r ≤ 4294967296 * length (now (t .entry))) ⌝ }
+// The widths of some characters together, in the font's row alone.
+fn row_total(t: &[u8], row: &[u16]) -> usize
+    requires { ⌜ (length (now row) ≡ 256) × (length (now t) < 65536) ⌝ }
+    ensures { λ r. ⌜ (r ≡ rowWidths (now (row .entry)) (now (t .entry))) × (r ≤ 65536 * length (now (t .entry))) ⌝ }
 {
     let mut sum: usize = 0;
     let mut k: usize = 0;
     while k < t.len() {
-        sum += width(row, space, t[k]);
+        let c = t[k] as usize;
+        sum += row[c] as usize;
         k += 1;
     }
     sum
+}
+
+// How many of some characters are X'40'.
+fn spaces(t: &[u8]) -> u32
+    requires { ⌜ length (now t) < 65536 ⌝ }
+    ensures { λ r. ⌜ (r ≡ spacesIn (now (t .entry))) × (r ≤ length (now (t .entry))) ⌝ }
+{
+    let mut n: u32 = 0;
+    let mut k: usize = 0;
+    while k < t.len() {
+        n += is_space(t[k]);
+        k += 1;
+    }
+    n
+}
+
+// The widths of some characters together. X'40' is counted apart, so that no character is tested where it has the row's width.
+fn total(t: &[u8], row: &[u16], space: usize) -> usize
+    requires { ⌜ (length (now row) ≡ 256) × ((space < 4294967296) × (length (now t) < 65536)) ⌝ }
+    ensures { λ r. ⌜ (r ≡ widthsOf (now (row .entry)) space (now (t .entry))) × (r ≤ 4294967296 * length (now (t .entry))) ⌝ }
+{
+    let sum = row_total(t, row);
+    let own = row[0x40] as usize;
+    if space == own {
+        return sum;
+    }
+    let n = spaces(t) as usize;
+    sum + n * space - n * own
 }
 
 // The widths of `count` characters of a text that begins again at its end: whole rounds, and a last part of one.

@@ -1,7 +1,7 @@
 // The table of types: for each TYPE, by its half, the LENGTHs that it takes.
 ghost use mathlib.Core.Path.{_≡_};
 ghost use Rattle.part.specs.Types.{function, chaining, _takes_};
-ghost use Rattle.part.specs.Code.{lengthsOf};
+ghost use Rattle.part.specs.Code.{lengthsOf, rows};
 
 // The LENGTHs that a type takes: the least, the greatest, and the first and last of a hole between them. All 0: no type.
 pub struct Lengths {
@@ -18,7 +18,7 @@ pub struct Kind {
 }
 
 // A row for each even TYPE from 00 to FE: its four LENGTHs, a byte each, the least last.
-const TYPES: [u32; 128] = [
+pub const TYPES: [u32; 128] = [
     0,
     0,
     0,
@@ -178,12 +178,13 @@ pub fn split(byte: u8) -> Kind
     }
 }
 
-// The LENGTHs of a type.
-pub fn lengths_of(byte: u8) -> Lengths
+// The LENGTHs of a type. The table is lent, so that it is made once a part and not once a sequence.
+pub fn lengths_of(types: &[u32; 128], byte: u8) -> Lengths
+    requires { ⌜ now types ≡ rows ⌝ }
     ensures { λ r. ⌜ r ≡ lengthsOf (function byte) ⌝ }
 {
     let half = (byte / 2) as usize;
-    let row = TYPES[half];
+    let row = types[half];
     Lengths {
         least: (row % 256) as u8,
         greatest: (row / 256 % 256) as u8,

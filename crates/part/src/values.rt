@@ -1,10 +1,9 @@
 // Parameters: bytes, and numbers of two bytes.
 ghost use mathlib.Core.Path.{_≡_};
 ghost use mathlib.Core.Bool.{_&&_, _||_};
-ghost use Prim.Native.Nat.{_≤_, _<_};
-ghost use Rattle.part.specs.Numbers.{byte, word, ones};
+ghost use Prim.Native.Nat.{_<_};
+ghost use Rattle.part.specs.Numbers.{byte, word};
 ghost use Rattle.part.specs.Presenting.{default};
-use super::working::ONES;
 
 // Both, or either.
 pub fn both(a: bool, b: bool) -> bool

@@ -3,7 +3,8 @@
 use Prim.Native.Nat.{_+_, _-_, _/_, _%_}
 use Rattle.part.proofs.Answers.{fits, refused-first, broken, whole}
 use Rattle.part.proofs.Turns.{ran-stopped}
-use Rattle.part.specs.Code.{stateOf}
+use Rattle.part.specs.Code.{stateOf, rows}
+use Rattle.part.specs.Types.{types}
 use borrow.Author.Needs.{needs}
 use denote.Ref.{now}
 use lib.ListN.{length, drop, length-drop}
@@ -36,14 +37,16 @@ slice-aggregate-run-2 : tie.Need-slice-aggregate-run-2
 slice-aggregate-run-2 c = search needs
 
 run-requires : tie.Need-run-requires
+unfolding rows types
 run-requires c κs =
-    let a = c .before .before .before .before .before .before .before .args in
+    let a = c .before .before .before .before .before .before .before .before .args in
     let part = now (a .part) in
     let widths = now (a .widths) in
     let area = now (a .area) in
     let s = a .s in
-    let fit = fits (length part) (length widths) (length area) (a .d) s (rw (c .before .before .if1 .left) at (c .before .before .before .admit .ensures .0)) in
-    (record { twelve = refl; inRange = fit .state; widths = fit .widths; whole = refl }, (fit .descriptor, fit .part))
+    let adm = rw (c .before .before .before .if1 .left) at (c .before .before .before .before .admit .ensures .0) in
+    let fit = fits (length part) (length widths) (length area) (a .d) s adm in
+    (refl, (record { twelve = refl; inRange = fit .state; widths = fit .widths; whole = refl }, (fit .descriptor, fit .part)))
 
 cast-at : tie.Need-cast-at
 cast-at c = search needs
@@ -56,12 +59,12 @@ refusal-requires-2 c κs = search needs
 
 returns-2 : tie.Need-returns-2
 returns-2 c =
-    let a = c .before .before .before .before .before .before .before .before .before .before .before .before .before .before .before .before .args in
+    let a = c .before .before .before .before .before .before .before .before .before .before .before .before .before .before .before .before .before .args in
     let part = now (a .part) in
     let widths = now (a .widths) in
     let area = now (a .area) in
     let s = a .s in
-    let adm = rw (c .before .before .before .before .before .before .before .before .before .before .before .if1 .left) at (c .before .before .before .before .before .before .before .before .before .before .before .before .admit .ensures .0) in
+    let adm = rw (c .before .before .before .before .before .before .before .before .before .before .before .before .if1 .left) at (c .before .before .before .before .before .before .before .before .before .before .before .before .before .admit .ensures .0) in
     let u = c .before .before .before .before .before .before .before .before .run in
     let stop = ran-stopped _ _ _ _ (u .result .fault) (u .result .at) (u .result .count) _ _ (c .before .before .before .before .if2 .taken) (u .ensures .0) in
     let b = broken widths (a .d) s part area adm (u .result .fault % 256) (u .result .at + u .result .fault / 256) stop in
@@ -76,131 +79,114 @@ array-read-wide c = search needs
 wide-requires-2 : tie.Need-wide-requires-2
 wide-requires-2 c κs = search needs
 
+cast-first : tie.Need-cast-first
+cast-first c = search needs
+
+sub-second : tie.Need-sub-second
+sub-second c =
+    let a = c .before .before .before .before .before .before .before .before .before .before .before .before .before .before .before .before .args in
+    let part = now (a .part) in
+    let widths = now (a .widths) in
+    let area = now (a .area) in
+    let s = a .s in
+    let adm = rw (c .before .before .before .before .before .before .before .before .before .before .before .if1 .left) at (c .before .before .before .before .before .before .before .before .before .before .before .before .admit .ensures .0) in
+    let u = c .before .before .before .before .before .before .before .run in
+    let scratch = u .last .1 .1 .1 .0 in
+    let done = whole widths (a .d) s part area adm (u .result .count) (stateOf (u .last .1 .1 .1 .1 .1 .0)) _ scratch refl (search needs) (rw (c .before .before .before .if2 .left) at (u .ensures .0)) in
+    let from = c .before .before .wide .ensures .0 in
+    let past = c .before .wide2 .ensures .0 in
+    omega (arith, done .order)
+
+cast-second : tie.Need-cast-second
+cast-second c = search needs
+
 sub-store : tie.Need-sub-store
 sub-store c =
-    let a = c .before .before .before .before .before .before .before .before .before .before .before .before .before .before .before .args in
-    let part = now (a .part) in
-    let widths = now (a .widths) in
-    let area = now (a .area) in
-    let s = a .s in
-    let adm = rw (c .before .before .before .before .before .before .before .before .before .before .if1 .left) at (c .before .before .before .before .before .before .before .before .before .before .before .admit .ensures .0) in
-    let u = c .before .before .before .before .before .before .before .run in
-    let done = whole widths (a .d) s part area adm (u .result .count) (stateOf (u .last .1 .1 .1 .1 .0)) _ (u .last .1 .1 .0) refl (search needs) (rw (c .before .before .before .if2 .left) at (u .ensures .0)) in
-    omega (arith, done .order, c .before .before .wide .ensures .0, c .before .wide2 .ensures .0)
-
-part-store-start : tie.Need-part-store-start
-part-store-start c =
-    let a = c .before .before .before .before .before .before .before .before .before .before .before .before .before .before .before .before .args in
-    let part = now (a .part) in
-    let widths = now (a .widths) in
-    let area = now (a .area) in
-    let s = a .s in
-    let adm = rw (c .before .before .before .before .before .before .before .before .before .before .before .if1 .left) at (c .before .before .before .before .before .before .before .before .before .before .before .before .admit .ensures .0) in
-    let u = c .before .before .before .before .before .before .before .before .run in
-    let done = whole widths (a .d) s part area adm (u .result .count) (stateOf (u .last .1 .1 .1 .1 .0)) _ (u .last .1 .1 .0) refl (search needs) (rw (c .before .before .before .before .if2 .left) at (u .ensures .0)) in
-    omega (arith, done .order, c .before .before .before .wide .ensures .0, c .before .before .wide2 .ensures .0)
-
-part-store-end : tie.Need-part-store-end
-part-store-end c =
-    let a = c .before .before .before .before .before .before .before .before .before .before .before .before .before .before .before .before .args in
-    let part = now (a .part) in
-    let widths = now (a .widths) in
-    let area = now (a .area) in
-    let s = a .s in
-    let adm = rw (c .before .before .before .before .before .before .before .before .before .before .before .if1 .left) at (c .before .before .before .before .before .before .before .before .before .before .before .before .admit .ensures .0) in
-    let u = c .before .before .before .before .before .before .before .before .run in
-    let done = whole widths (a .d) s part area adm (u .result .count) (stateOf (u .last .1 .1 .1 .1 .0)) _ (u .last .1 .1 .0) refl (search needs) (rw (c .before .before .before .before .if2 .left) at (u .ensures .0)) in
-    let long : length (u .last .1 .1 .0) ≡ 4096 = search needs in
-    omega (arith, long, done .most, c .before .before .wide2 .ensures .0)
-
-store-requires : tie.Need-store-requires
-store-requires c κs =
     let a = c .before .before .before .before .before .before .before .before .before .before .before .before .before .before .before .before .before .args in
     let part = now (a .part) in
     let widths = now (a .widths) in
     let area = now (a .area) in
     let s = a .s in
     let adm = rw (c .before .before .before .before .before .before .before .before .before .before .before .before .if1 .left) at (c .before .before .before .before .before .before .before .before .before .before .before .before .before .admit .ensures .0) in
-    let u = c .before .before .before .before .before .before .before .before .before .run in
-    let done = whole widths (a .d) s part area adm (u .result .count) (stateOf (u .last .1 .1 .1 .1 .0)) _ (u .last .1 .1 .0) refl (search needs) (rw (c .before .before .before .before .before .if2 .left) at (u .ensures .0)) in
-    let from = c .before .before .before .before .wide .result in
-    let past = c .before .before .before .wide2 .result in
-    let long : length (u .last .1 .1 .0) ≡ 4096 = search needs in
-    let l = length-drop from (u .last .1 .1 .0) in
-    let n = length-take-le (past - from) (drop from (u .last .1 .1 .0)) (omega (arith, done .most, c .before .before .before .wide2 .ensures .0)) in
-    let fit = fits (length part) (length widths) (length area) (a .d) s adm in
-    omega (arith, n, done .order, done .most, c .before .before .before .before .wide .ensures .0, c .before .before .before .wide2 .ensures .0, fit .area)
+    let u = c .before .before .before .before .before .before .before .before .run in
+    let scratch = u .last .1 .1 .1 .0 in
+    let done = whole widths (a .d) s part area adm (u .result .count) (stateOf (u .last .1 .1 .1 .1 .1 .0)) _ scratch refl (search needs) (rw (c .before .before .before .before .if2 .left) at (u .ensures .0)) in
+    let from = c .before .before .before .wide .ensures .0 in
+    let past = c .before .before .wide2 .ensures .0 in
+    omega (arith, done .order)
 
-cast-t26 : tie.Need-cast-t26
-cast-t26 c = search needs
-
-sub-t13 : tie.Need-sub-t13
-sub-t13 c =
-    let a = c .before .before .before .before .before .before .before .before .before .before .before .before .before .before .before .before .before .before .before .before .before .args in
+part-store-start : tie.Need-part-store-start
+part-store-start c =
+    let a = c .before .before .before .before .before .before .before .before .before .before .before .before .before .before .before .before .before .before .args in
     let part = now (a .part) in
     let widths = now (a .widths) in
     let area = now (a .area) in
     let s = a .s in
-    let adm = rw (c .before .before .before .before .before .before .before .before .before .before .before .before .before .before .before .before .if1 .left) at (c .before .before .before .before .before .before .before .before .before .before .before .before .before .before .before .before .before .admit .ensures .0) in
-    let u = c .before .before .before .before .before .before .before .before .before .before .before .before .before .run in
-    let done = whole widths (a .d) s part area adm (u .result .count) (stateOf (u .last .1 .1 .1 .1 .0)) _ (u .last .1 .1 .0) refl (search needs) (rw (c .before .before .before .before .before .before .before .before .before .if2 .left) at (u .ensures .0)) in
-    omega (arith, done .order, c .before .before .before .before .before .before .before .before .wide .ensures .0, c .before .before .before .before .before .before .before .wide2 .ensures .0)
+    let adm = rw (c .before .before .before .before .before .before .before .before .before .before .before .before .before .if1 .left) at (c .before .before .before .before .before .before .before .before .before .before .before .before .before .before .admit .ensures .0) in
+    let u = c .before .before .before .before .before .before .before .before .before .run in
+    let scratch = u .last .1 .1 .1 .0 in
+    let done = whole widths (a .d) s part area adm (u .result .count) (stateOf (u .last .1 .1 .1 .1 .1 .0)) _ scratch refl (search needs) (rw (c .before .before .before .before .before .if2 .left) at (u .ensures .0)) in
+    let from = c .before .before .before .before .wide .ensures .0 in
+    let past = c .before .before .before .wide2 .ensures .0 in
+    omega (arith, done .order)
 
-cast-t34 : tie.Need-cast-t34
-cast-t34 c = search needs
+part-store-end : tie.Need-part-store-end
+part-store-end c =
+    let a = c .before .before .before .before .before .before .before .before .before .before .before .before .before .before .before .before .before .before .args in
+    let part = now (a .part) in
+    let widths = now (a .widths) in
+    let area = now (a .area) in
+    let s = a .s in
+    let adm = rw (c .before .before .before .before .before .before .before .before .before .before .before .before .before .if1 .left) at (c .before .before .before .before .before .before .before .before .before .before .before .before .before .before .admit .ensures .0) in
+    let u = c .before .before .before .before .before .before .before .before .before .run in
+    let scratch = u .last .1 .1 .1 .0 in
+    let done = whole widths (a .d) s part area adm (u .result .count) (stateOf (u .last .1 .1 .1 .1 .1 .0)) _ scratch refl (search needs) (rw (c .before .before .before .before .before .if2 .left) at (u .ensures .0)) in
+    let from = c .before .before .before .before .wide .ensures .0 in
+    let past = c .before .before .before .wide2 .ensures .0 in
+    let long : length scratch ≡ 4096 = search needs in
+    omega (arith, long, done .most)
 
-array-read-t38 : tie.Need-array-read-t38
-array-read-t38 c = search needs
+store-requires : tie.Need-store-requires
+store-requires c κs =
+    let a = c .before .before .before .before .before .before .before .before .before .before .before .before .before .before .before .before .before .before .before .args in
+    let part = now (a .part) in
+    let widths = now (a .widths) in
+    let area = now (a .area) in
+    let s = a .s in
+    let adm = rw (c .before .before .before .before .before .before .before .before .before .before .before .before .before .before .if1 .left) at (c .before .before .before .before .before .before .before .before .before .before .before .before .before .before .before .admit .ensures .0) in
+    let u = c .before .before .before .before .before .before .before .before .before .before .run in
+    let scratch = u .last .1 .1 .1 .0 in
+    let done = whole widths (a .d) s part area adm (u .result .count) (stateOf (u .last .1 .1 .1 .1 .1 .0)) _ scratch refl (search needs) (rw (c .before .before .before .before .before .before .if2 .left) at (u .ensures .0)) in
+    let from = c .before .before .before .before .before .wide .ensures .0 in
+    let past = c .before .before .before .before .wide2 .ensures .0 in
+    let first = c .before .before .before .before .before .wide .result in
+    let last = c .before .before .before .before .wide2 .result in
+    let long : length scratch ≡ 4096 = search needs in
+    let l = length-drop first scratch in
+    let n = length-take-le (last - first) (drop first scratch) (omega (arith, done .most)) in
+    let fit = fits (length part) (length widths) (length area) (a .d) s adm in
+    omega (arith, n, done .order, done .most, fit .area)
 
-array-read-t41 : tie.Need-array-read-t41
-array-read-t41 c = search needs
-
-array-read-t45 : tie.Need-array-read-t45
-array-read-t45 c = search needs
-
-array-read-t48 : tie.Need-array-read-t48
-array-read-t48 c = search needs
-
-array-read-t51 : tie.Need-array-read-t51
-array-read-t51 c = search needs
-
-array-read-t54 : tie.Need-array-read-t54
-array-read-t54 c = search needs
-
-array-read-t57 : tie.Need-array-read-t57
-array-read-t57 c = search needs
-
-array-read-t60 : tie.Need-array-read-t60
-array-read-t60 c = search needs
-
-array-read-t63 : tie.Need-array-read-t63
-array-read-t63 c = search needs
-
-array-read-t66 : tie.Need-array-read-t66
-array-read-t66 c = search needs
-
-array-read-t69 : tie.Need-array-read-t69
-array-read-t69 c = search needs
-
-array-read-t72 : tie.Need-array-read-t72
-array-read-t72 c = search needs
+state-of-requires : tie.Need-state-of-requires
+state-of-requires c κs = search needs
 
 same-length : tie.Need-same-length
 same-length c = search needs
 
 returns-3 : tie.Need-returns-3
 returns-3 c =
-    let a = c .before .before .before .before .before .before .before .before .before .before .before .before .before .before .before .before .before .before .before .before .before .args in
+    let a = c .before .before .before .before .before .before .before .before .before .before .before .before .before .before .before .before .before .before .before .before .before .before .before .before .args in
     let part = now (a .part) in
     let widths = now (a .widths) in
     let area = now (a .area) in
     let s = a .s in
-    let adm = rw (c .before .before .before .before .before .before .before .before .before .before .before .before .before .before .before .before .if1 .left) at (c .before .before .before .before .before .before .before .before .before .before .before .before .before .before .before .before .before .admit .ensures .0) in
-    let u = c .before .before .before .before .before .before .before .before .before .before .before .before .before .run in
-    let done = whole widths (a .d) s part area adm (u .result .count) (stateOf (u .last .1 .1 .1 .1 .0)) _ (u .last .1 .1 .0) refl (search needs) (rw (c .before .before .before .before .before .before .before .before .before .if2 .left) at (u .ensures .0)) in
-    let from = c .before .before .before .before .before .before .before .before .wide .ensures .0 in
-    let past = c .before .before .before .before .before .before .before .wide2 .ensures .0 in
-    (rw (from, past) (done .answers), c .before .before .before .store .ensures ∙ rw (from, past) (done .writes))
+    let adm = rw (c .before .before .before .before .before .before .before .before .before .before .before .before .before .before .before .before .before .before .before .if1 .left) at (c .before .before .before .before .before .before .before .before .before .before .before .before .before .before .before .before .before .before .before .before .admit .ensures .0) in
+    let u = c .before .before .before .before .before .before .before .before .before .before .before .before .before .before .before .run in
+    let scratch = u .last .1 .1 .1 .0 in
+    let done = whole widths (a .d) s part area adm (u .result .count) (stateOf (u .last .1 .1 .1 .1 .1 .0)) _ scratch refl (search needs) (rw (c .before .before .before .before .before .before .before .before .before .before .before .if2 .left) at (u .ensures .0)) in
+    let from = c .before .before .before .before .before .before .before .before .before .before .wide .ensures .0 in
+    let past = c .before .before .before .before .before .before .before .before .before .wide2 .ensures .0 in
+    (rw (c .state-of .ensures, from, past) (done .answers), c .before .before .before .before .store .ensures ∙ rw (from, past) (done .writes))
 
 pub interpret-spec : {M : Type 1} → statement M
 interpret-spec =
@@ -219,24 +205,13 @@ interpret-spec =
     wide-requires
     array-read-wide
     wide-requires-2
+    cast-first
+    sub-second
+    cast-second
     sub-store
     part-store-start
     part-store-end
     store-requires
-    cast-t26
-    sub-t13
-    cast-t34
-    array-read-t38
-    array-read-t41
-    array-read-t45
-    array-read-t48
-    array-read-t51
-    array-read-t54
-    array-read-t57
-    array-read-t60
-    array-read-t63
-    array-read-t66
-    array-read-t69
-    array-read-t72
+    state-of-requires
     same-length
     returns-3)

@@ -7,7 +7,8 @@ use borrow.Author.Tests.{eq-eqb, ne-eqb}
 use denote.Ref.{now}
 use lib.ListN.{getD, List·getD-eq-default}
 use Rattle.part.specs.Reading.{element}
-use Rattle.part.proofs.Reading.{stretch-fits, stretch-some, there}
+use Rattle.part.proofs.Bytes.{there}
+use Rattle.part.proofs.Reading.{stretch-fits, stretch-some}
 use Rattle.part.proofs.reader.read_element.Statement.{statement}
 use Rattle.part.proofs.reader.read_element.Tie as tie
 

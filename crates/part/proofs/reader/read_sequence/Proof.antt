@@ -78,8 +78,8 @@ returns-5 c =
     let e = typed (a .at) (now (a .bytes)) (i .before .before .if1 .left) (i .if2 .left) (l .lengths-of .ensures) (t .before .if3 .left) (t .takes .ensures) in
     rw (e, not-false (t .takes .result) (c .before .if4 .left), lt-leb _ _ (c .if5 .taken)) (refl, search needs)
 
-cast-t15 : tie.Need-cast-t15
-cast-t15 c = search needs
+cast-chains : tie.Need-cast-chains
+cast-chains c = search needs
 
 returns-6 : tie.Need-returns-6
 returns-6 c =
@@ -108,5 +108,5 @@ read-sequence-spec =
     cast-size
     add-size
     returns-5
-    cast-t15
+    cast-chains
     returns-6)

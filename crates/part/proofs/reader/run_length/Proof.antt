@@ -1,12 +1,11 @@
 -- `part::reader::run_length` meets its contract. The invariant: k bytes and the stretch from there on make the whole stretch.
 -- Assumes nothing.
 use Prim.Native.Nat.{_+_, _-_, _≤_}
-use mathlib.Core.Path.{_≡_, sym, _∙_}
-use native.Mathlib.Nat.{zero-add}
+use Rattle.part.proofs.Runs.{stops, goes, ends}
+use Rattle.part.specs.Reading.{stretch}
 use borrow.Author.Needs.{needs}
 use lib.ListN.{length, drop}
-use Rattle.part.specs.Reading.{stretch}
-use Rattle.part.proofs.Runs.{stops, goes, ends}
+use mathlib.Core.Path.{_≡_, sym, _∙_}
 use Rattle.part.proofs.reader.run_length.Statement.{statement}
 use Rattle.part.proofs.reader.run_length.Tie as tie
 
@@ -16,8 +15,11 @@ Inv-loop bytes k₀ k = (k ≤ length bytes) × (k + stretch (drop k bytes) ≡ 
 abbrev μ-loop : tie.MeasureT-loop
 μ-loop bytes k₀ k = length bytes - k
 
+clear-blocks-requires : tie.Need-clear-blocks-requires Inv-loop μ-loop
+clear-blocks-requires c κs = search needs
+
 loop-holds : tie.Need-loop-holds Inv-loop μ-loop
-loop-holds c = (search needs, zero-add _)
+loop-holds c = search needs
 
 shared-slice-read-if1 : tie.Need-shared-slice-read-if1 Inv-loop μ-loop
 shared-slice-read-if1 c = search needs
@@ -47,6 +49,7 @@ run-length-spec =
     (tie.spec
     Inv-loop
     μ-loop
+    clear-blocks-requires
     loop-holds
     shared-slice-read-if1
     returns

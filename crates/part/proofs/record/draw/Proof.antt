@@ -1,29 +1,33 @@
--- `part::record::draw` meets its contract: as many characters as the text has are the text.
+-- `part::record::draw` meets its contract: up to one round the characters are the text's first.
 -- Assumes nothing.
-use mathlib.Core.Path.{_≡_, sym, _∙_, ap}
+use Rattle.part.proofs.Cycles.{cycle-take}
 use borrow.Author.Needs.{needs}
 use denote.Ref.{now}
-use lib.Seq.{sets}
-use Rattle.part.specs.Text.{cycle}
-use Rattle.part.proofs.Cycles.{once}
+use lib.Seq.{sets, length-take-le}
+use mathlib.Core.Path.{sym, _∙_, ap}
 use Rattle.part.proofs.record.draw.Statement.{statement}
 use Rattle.part.proofs.record.draw.Tie as tie
 
+slice-aggregate-store : tie.Need-slice-aggregate-store
+slice-aggregate-store c =
+    let a = c .before .before .before .before .before .args in
+    sym (length-take-le (a .count) (now (a .text)) (c .before .before .if1 .taken))
+
 store-requires : tie.Need-store-requires
-store-requires c κs = search needs
+store-requires c κs =
+    let a = c .before .before .before .before .before .args in
+    rw (length-take-le (a .count) (now (a .text)) (c .before .before .if1 .taken)) (search needs)
 
 same-length : tie.Need-same-length
 same-length c = search needs
 
 returns : tie.Need-returns
 returns c =
-    let a = c .before .before .before .before .before .before .before .args in
-    let t = now (a .text) in
-    let whole : cycle t 0 (a .count) ≡ t = ap (cycle t 0) (c .before .before .before .before .if1 .taken) ∙ once t in
-    c .before .before .store .ensures ∙ ap (sets (now (a .area)) (a .at)) (sym whole)
+    let a = c .before .before .before .before .before .before .before .before .args in
+    c .before .before .store .ensures ∙ ap (sets (now (a .area)) (a .at)) (sym (cycle-take (now (a .text)) (a .count) (c .before .before .before .before .before .if1 .taken)))
 
-store-cycle-requires : tie.Need-store-cycle-requires
-store-cycle-requires c κs = search needs
+store-rounds-requires : tie.Need-store-rounds-requires
+store-rounds-requires c κs = search needs
 
 same-length-2 : tie.Need-same-length-2
 same-length-2 c = search needs
@@ -34,4 +38,11 @@ returns-2 c = search needs
 pub draw-spec : {M : Type 1} → statement M
 draw-spec =
     tie.close
-    (tie.spec store-requires same-length returns store-cycle-requires same-length-2 returns-2)
+    (tie.spec
+    slice-aggregate-store
+    store-requires
+    same-length
+    returns
+    store-rounds-requires
+    same-length-2
+    returns-2)

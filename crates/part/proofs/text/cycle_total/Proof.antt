@@ -8,8 +8,9 @@ use borrow.Author.Needs.{needs}
 use denote.Ref.{now}
 use lib.ListN.{length}
 use lib.Seq.{length-take-le}
+use Rattle.part.specs.Code.{widthIn}
 use Rattle.part.proofs.Cycles.{once}
-use Rattle.part.proofs.Lines.{widths-cycle, rounds-bound}
+use Rattle.part.proofs.Lines.{sum-cycle, rounds-bound}
 use Rattle.part.proofs.text.cycle_total.Statement.{statement}
 use Rattle.part.proofs.text.cycle_total.Tie as tie
 
@@ -57,7 +58,7 @@ returns-2 c =
     let t = c .before .before in
     let a = t .before .before .before .before .args in
     let bound = rounds-bound (now (a .t)) (a .count) (t .total2 .result) (c .total3 .result) 4294967296 (search needs) (t .total2 .ensures .1) (c .total3 .ensures .1) in
-    (rw (widths-cycle (now (a .row)) (a .space) (now (a .t)) (a .count) (search needs), ← c .total3 .ensures .0, ← t .total2 .ensures .0), bound)
+    (rw (sum-cycle (widthIn (now (a .row)) (a .space)) (now (a .t)) (a .count) (search needs), ← c .total3 .ensures .0, ← t .total2 .ensures .0), bound)
 
 pub cycle-total-spec : {M : Type 1} → statement M
 cycle-total-spec =

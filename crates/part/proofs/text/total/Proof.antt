@@ -1,66 +1,126 @@
--- `part::text::total` meets its contract. The invariant: the sum and the widths that are left are the widths of all.
+-- `part::text::total` meets its contract: each X'40' takes the line's width for the row's.
 -- Assumes nothing.
-use Prim.Native.Nat.{_+_, _*_, _-_, _≤_}
-use mathlib.Core.Path.{_≡_}
-use native.Mathlib.Omega.{arith}
+use Prim.Native.Nat.{_+_, _*_, _-_}
+use Rattle.part.proofs.Lines.{spaces-apart, product-fits, sum-bound, width-most}
+use Rattle.part.specs.Code.{widthIn, spacesIn, widthsOf}
 use borrow.Author.Needs.{needs}
 use denote.Ref.{now}
-use lib.ListN.{length, drop}
-use Rattle.part.specs.Code.{widthsOf}
-use Rattle.part.proofs.Lines.{widths-rest, widths-none}
+use lib.ListN.{getD}
+use mathlib.Core.Path.{_≡_, ap}
+use native.Mathlib.Nat.{le-of-lt}
+use native.Mathlib.Omega.{arith}
 use Rattle.part.proofs.text.total.Statement.{statement}
 use Rattle.part.proofs.text.total.Tie as tie
 
-abbrev Inv-loop : tie.InvT-loop
-Inv-loop t row space sum₀ k₀ sum k = (k ≤ length t) × ((sum ≤ 4294967296 * k) × (sum + widthsOf row space (drop k t) ≡ widthsOf row space t))
+row-total-requires : tie.Need-row-total-requires
+row-total-requires c κs = search needs
 
-abbrev μ-loop : tie.MeasureT-loop
-μ-loop t row space sum₀ k₀ sum k = length t - k
+shared-slice-read-own : tie.Need-shared-slice-read-own
+shared-slice-read-own c = search needs
 
-loop-holds : tie.Need-loop-holds Inv-loop μ-loop
-loop-holds c = search needs
+cast-own : tie.Need-cast-own
+cast-own c = omega (arith, c .shared-slice-known3 .given 64)
 
-shared-slice-read-width : tie.Need-shared-slice-read-width Inv-loop μ-loop
-shared-slice-read-width c = search needs
-
-width-requires : tie.Need-width-requires Inv-loop μ-loop
-width-requires c κs = search needs
-
-add-sum : tie.Need-add-sum Inv-loop μ-loop
-add-sum c = search needs
-
-add-k : tie.Need-add-k Inv-loop μ-loop
-add-k c = search needs
-
-loop-less : tie.Need-loop-less Inv-loop μ-loop
-loop-less c = search needs
-
-loop-again : tie.Need-loop-again Inv-loop μ-loop
-loop-again c =
-    let l = c .before .before .before in
-    let a = l .before .before .before .args in
-    let rest = widths-rest (now (a .row)) (a .space) (now (a .t)) (l .loop .k) (search needs) in
-    let one = c .width .ensures .0 in
-    (search needs, (search needs, omega (arith, rest, one, l .loop .inv .1 .1)))
-
-returns : tie.Need-returns Inv-loop μ-loop
+returns : tie.Need-returns
 returns c =
-    let l = c .before in
-    let a = l .before .before .before .args in
-    let none = widths-none (now (a .row)) (a .space) (now (a .t)) (l .loop .k) (c .loop-test .left) in
-    (omega (arith, none, l .loop .inv .1 .1), search needs)
+    let st = c .before .before .before .before .before in
+    let a = st .args in
+    let row = now (a .row) in
+    let t = now (a .t) in
+    let apart = spaces-apart row (a .space) t in
+    let same = ap (λ v. spacesIn t * v) (c .if1 .taken) in
+    let bound = sum-bound (widthIn row (a .space)) 4294967296 (λ x. le-of-lt (width-most row (a .space) (λ k. omega (arith, c .before .shared-slice-known3 .given k)) (st .pre .1 .0) x)) t in
+    (omega (arith, c .before .before .row-total .ensures .0), omega (arith, c .before .before .row-total .ensures .0))
+
+spaces-requires : tie.Need-spaces-requires
+spaces-requires c κs = search needs
+
+cast-n : tie.Need-cast-n
+cast-n c = search needs
+
+mul-result : tie.Need-mul-result
+mul-result c =
+    let a = c .before .before .before .before .before .before .args in
+    let row = now (a .row) in
+    let t = now (a .t) in
+    let apart = spaces-apart row (a .space) t in
+    let all = c .before .before .before .row-total .ensures .0 in
+    let n = c .spaces .ensures in
+    let own = c .before .before .shared-slice-known3 .given 64 in
+    let p = product-fits (c .spaces .result) (a .space) (omega arith) (c .before .before .before .before .before .before .pre .1 .0) in
+    let q = product-fits (c .spaces .result) (getD row 64 0) (omega arith) (omega arith) in
+    omega arith
+
+add-result : tie.Need-add-result
+add-result c =
+    let a = c .before .before .before .before .before .before .args in
+    let row = now (a .row) in
+    let t = now (a .t) in
+    let apart = spaces-apart row (a .space) t in
+    let all = c .before .before .before .row-total .ensures .0 in
+    let n = c .spaces .ensures in
+    let own = c .before .before .shared-slice-known3 .given 64 in
+    let p = product-fits (c .spaces .result) (a .space) (omega arith) (c .before .before .before .before .before .before .pre .1 .0) in
+    let q = product-fits (c .spaces .result) (getD row 64 0) (omega arith) (omega arith) in
+    omega (arith, c .before .before .before .row-total .ensures .1)
+
+mul-result-2 : tie.Need-mul-result-2
+mul-result-2 c =
+    let a = c .before .before .before .before .before .before .args in
+    let row = now (a .row) in
+    let t = now (a .t) in
+    let apart = spaces-apart row (a .space) t in
+    let all = c .before .before .before .row-total .ensures .0 in
+    let n = c .spaces .ensures in
+    let own = c .before .before .shared-slice-known3 .given 64 in
+    let p = product-fits (c .spaces .result) (a .space) (omega arith) (c .before .before .before .before .before .before .pre .1 .0) in
+    let q = product-fits (c .spaces .result) (getD row 64 0) (omega arith) (omega arith) in
+    omega arith
+
+sub-result : tie.Need-sub-result
+sub-result c =
+    let a = c .before .before .before .before .before .before .args in
+    let row = now (a .row) in
+    let t = now (a .t) in
+    let apart = spaces-apart row (a .space) t in
+    let all = c .before .before .before .row-total .ensures .0 in
+    let n = c .spaces .ensures in
+    let own = c .before .before .shared-slice-known3 .given 64 in
+    let p = product-fits (c .spaces .result) (a .space) (omega arith) (c .before .before .before .before .before .before .pre .1 .0) in
+    let q = product-fits (c .spaces .result) (getD row 64 0) (omega arith) (omega arith) in
+    let e = ap (λ k. k * a .space) (n .0) in
+    let f = ap (λ k. k * getD row 64 0) (n .0) in
+    omega arith
+
+returns-2 : tie.Need-returns-2
+returns-2 c =
+    let a = c .before .before .before .before .before .before .args in
+    let row = now (a .row) in
+    let t = now (a .t) in
+    let apart = spaces-apart row (a .space) t in
+    let all = c .before .before .before .row-total .ensures .0 in
+    let n = c .spaces .ensures in
+    let own = c .before .before .shared-slice-known3 .given 64 in
+    let p = product-fits (c .spaces .result) (a .space) (omega arith) (c .before .before .before .before .before .before .pre .1 .0) in
+    let q = product-fits (c .spaces .result) (getD row 64 0) (omega arith) (omega arith) in
+    let e = ap (λ k. k * a .space) (n .0) in
+    let f = ap (λ k. k * getD row 64 0) (n .0) in
+    let bound = sum-bound (widthIn row (a .space)) 4294967296 (λ x. le-of-lt (width-most row (a .space) (λ k. omega (arith, c .before .before .shared-slice-known3 .given k)) (c .before .before .before .before .before .before .pre .1 .0) x)) t in
+    let same : c .before .before .before .row-total .result + c .spaces .result * a .space - c .spaces .result * getD row 64 0 ≡ widthsOf row (a .space) t = omega arith in
+    (same, rw same bound)
 
 pub total-spec : {M : Type 1} → statement M
 total-spec =
     tie.close
     (tie.spec
-    Inv-loop
-    μ-loop
-    loop-holds
-    shared-slice-read-width
-    width-requires
-    add-sum
-    add-k
-    loop-less
-    loop-again
-    returns)
+    row-total-requires
+    shared-slice-read-own
+    cast-own
+    returns
+    spaces-requires
+    cast-n
+    mul-result
+    add-result
+    mul-result-2
+    sub-result
+    returns-2)

@@ -1,6 +1,6 @@
 -- `part::values::byte_at` meets its contract: within the bytes it is theirs, past their end `absent`.
 -- Assumes nothing.
-use Rattle.part.proofs.Bytes.{same-within}
+use Rattle.part.proofs.Bytes.{there}
 use borrow.Author.Needs.{needs}
 use denote.Ref.{now}
 use lib.ListN.{List·getD-eq-default}
@@ -18,7 +18,7 @@ cast-result c = omega (arith, c .shared-slice-known .given (c .before .before .a
 returns : tie.Need-returns
 returns c =
     let a = c .before .before .args in
-    (same-within (now (a .p)) (a .at) 0 (a .absent) (c .before .if1 .taken), omega (arith, c .shared-slice-known .given (a .at)))
+    (there (now (a .p)) (a .at) 0 (a .absent) (c .before .if1 .taken), omega (arith, c .shared-slice-known .given (a .at)))
 
 returns-2 : tie.Need-returns-2
 returns-2 c =
