@@ -1,0 +1,16 @@
+//! Seeded parts, direct calls and request sequences, for comparing two hubs.
+//!
+//! Elements are made by the grammar with every parameter's edges among their
+//! values, and tried on this crate's interpreter before they are kept: so a
+//! part can be long and accepted, or fail at just the element that was meant.
+
+mod elements;
+mod numbers;
+mod parts;
+mod requests;
+mod rng;
+
+pub use numbers::{descriptor, entry, state, Reach};
+pub use parts::{case, part, sized_part, Case, Ground};
+pub use requests::Requests;
+pub use rng::Rng;

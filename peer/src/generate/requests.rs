@@ -1,0 +1,233 @@
+//! Sequences of requests, steered by running them on this crate's hub.
+
+use super::numbers::{self, Reach};
+use super::parts::{self, Ground};
+use super::rng::Rng;
+use crate::model::{Descriptor, Entry, AREA, RECORDS, SLOTS, WIDTHS};
+use crate::replay::{Peer, Replay, Said};
+use crate::script::{Lend, Step};
+
+/// The lengths that a hub asks for.
+const RIGHT: Lend = Lend { table: SLOTS, records: RECORDS, widths: WIDTHS };
+/// Requests remembered for a retry.
+const RECENT: usize = 40;
+
+/// An endless sequence of steps, each with what this crate's hub says to it.
+#[derive(Clone, Debug)]
+pub struct Requests {
+    rng: Rng,
+    reach: Reach,
+    replay: Replay<Peer>,
+    recent: Vec<Step>,
+}
+
+impl Requests {
+    /// The sequence of a seed.
+    pub fn new(seed: u64, reach: Reach) -> Self {
+        Self { rng: Rng::new(seed), reach, replay: Replay::new(Peer), recent: Vec::new() }
+    }
+
+    /// This crate's hub as the steps so far have left it.
+    pub fn replay(&self) -> &Replay<Peer> {
+        &self.replay
+    }
+
+    /// Wrong lengths are lent for a few steps only.
+    fn choose(&mut self) -> Step {
+        if self.replay.lend() != RIGHT && self.rng.chance(1, 5) {
+            return Step::Lend(RIGHT);
+        }
+        match self.rng.below(100) {
+            0..=44 => self.submit(),
+            45..=59 => self.open(),
+            60..=66 => self.close(),
+            67..=77 => self.direct(),
+            78..=82 => self.set(),
+            83..=87 => self.retry(),
+            88..=90 => Step::Show { slot: self.rng.size(SLOTS) },
+            91 | 92 => Step::Count,
+            93 => self.bytes(),
+            94 | 95 => self.width(),
+            96 => Step::Widths(self.rng.pick(&[0, 0, 1, 20, 144, 144, 300, 4_000, 65_535])),
+            97 => self.lend(),
+            98 => self.repair(),
+            _ if self.rng.chance(1, 4) => Step::Fresh,
+            _ => Step::Fill(self.rng.byte()),
+        }
+    }
+
+    fn entry(&self, slot: usize) -> &Entry {
+        &self.replay.memory().table[slot]
+    }
+
+    /// A slot whose entry is as wanted, if a few looks find one.
+    fn slot(&mut self, wanted: impl Fn(&Entry) -> bool) -> usize {
+        let mut slot = self.rng.size(SLOTS);
+        for _ in 0..24 {
+            if wanted(self.entry(slot)) {
+                break;
+            }
+            slot = self.rng.size(SLOTS);
+        }
+        slot
+    }
+
+    /// A slot as a request names it, now and then one that isn't there.
+    fn named(&mut self, slot: usize) -> u32 {
+        if self.rng.chance(1, 40) {
+            self.rng.pick(&[16, 17, 19, 255, 65_536, u32::MAX])
+        } else {
+            slot as u32
+        }
+    }
+
+    /// The right key, or another one.
+    fn key(&mut self, right: u32) -> u32 {
+        match self.rng.below(40) {
+            0 => self.rng.pick(&[0, 1, u32::MAX]),
+            1 => right.wrapping_add(1),
+            2 => right.wrapping_sub(1),
+            _ => right,
+        }
+    }
+
+    fn open(&mut self) -> Step {
+        let slot = if self.rng.chance(4, 5) {
+            self.slot(|entry| !entry.is_open())
+        } else {
+            self.slot(|entry| entry.is_open() && !entry.is_damaged())
+        };
+        let entry = *self.entry(slot);
+        let above = entry.key.saturating_add(self.rng.between(1, 5));
+        let key = match self.rng.below(8) {
+            0 | 1 => self.key(entry.key),
+            _ => above,
+        };
+        let mut descriptor = numbers::descriptor(&mut self.rng);
+        if self.rng.chance(1, 7) {
+            numbers::spoil_descriptor(&mut self.rng, &mut descriptor);
+        }
+        Step::Open { slot: self.named(slot), key, descriptor }
+    }
+
+    fn submit(&mut self) -> Step {
+        let slot = if self.rng.chance(19, 20) {
+            self.slot(|entry| entry.is_open() && !entry.is_damaged())
+        } else {
+            self.rng.size(SLOTS)
+        };
+        let Entry { key, next, .. } = *self.entry(slot);
+        let number = match self.rng.below(24) {
+            0 => next.wrapping_sub(1),
+            1 => next.wrapping_add(self.rng.between(1, 3)),
+            2 => self.rng.pick(&[0, 0, 65_536, 65_537, u32::MAX]),
+            3 => self.rng.between(1, 65_535),
+            _ => next,
+        };
+        let part = self.part(slot);
+        Step::Submit { slot: self.named(slot), key: self.key(key), number, part }
+    }
+
+    /// A part for a slot, as its job stands.
+    fn part(&mut self, slot: usize) -> Vec<u8> {
+        let Entry { descriptor, state, .. } = *self.entry(slot);
+        let widths = &self.replay.memory().widths[..WIDTHS];
+        parts::part(&mut self.rng, &Ground { descriptor, state, widths })
+    }
+
+    /// Full areas are closed sooner.
+    fn close(&mut self) -> Step {
+        let slot = if self.rng.chance(2, 3) {
+            self.slot(|entry| entry.is_open() && entry.state.used > AREA as u32 / 2)
+        } else {
+            self.rng.size(SLOTS)
+        };
+        let key = self.entry(slot).key;
+        Step::Close { slot: self.named(slot), key: self.key(key) }
+    }
+
+    fn direct(&mut self) -> Step {
+        let slot = if self.rng.chance(4, 5) {
+            self.slot(|entry| entry.descriptor != Descriptor::default())
+        } else {
+            self.rng.size(SLOTS)
+        };
+        Step::Direct { slot, part: self.part(slot) }
+    }
+
+    /// An entry in range, damaged, or closed with anything in it.
+    fn set(&mut self) -> Step {
+        let slot = self.rng.size(SLOTS);
+        let key = self.entry(slot).key.saturating_add(self.rng.between(0, 1));
+        let mut entry = numbers::entry(&mut self.rng, key);
+        if self.rng.chance(1, 3) {
+            numbers::spoil_entry(&mut self.rng, self.reach, &mut entry);
+        }
+        if self.rng.chance(1, 4) {
+            entry.mark = 0;
+        }
+        Step::Set { slot, entry }
+    }
+
+    /// A damaged entry is made whole, which no request can do.
+    fn repair(&mut self) -> Step {
+        let slot = self.slot(Entry::is_damaged);
+        let key = self.entry(slot).key;
+        Step::Set { slot, entry: Entry { mark: 0, ..numbers::entry(&mut self.rng, key) } }
+    }
+
+    /// A request sent again, some time later.
+    fn retry(&mut self) -> Step {
+        if self.recent.is_empty() {
+            return Step::Count;
+        }
+        let at = self.rng.size(self.recent.len());
+        self.recent[at].clone()
+    }
+
+    fn bytes(&mut self) -> Step {
+        let slot = self.rng.size(SLOTS);
+        let from = self.rng.size(AREA + 1);
+        let to = from + self.rng.size((AREA - from).min(64) + 1);
+        Step::Bytes { slot, from, to }
+    }
+
+    fn width(&mut self) -> Step {
+        let code_point = self.rng.pick(&[0x40, 0x40, 0xC1, 0xC2, 0xC9, 0x00, 0xFF]);
+        let width = self.rng.pick(&[0, 1, 72, 144, 145, 288, 4_095, 32_767, 65_535]);
+        Step::Width { font: self.rng.below(4) as u8, code_point, width }
+    }
+
+    fn lend(&mut self) -> Step {
+        let mut lend = RIGHT;
+        match self.rng.below(4) {
+            0 => lend.table = self.rng.pick(&[0, 1, 15, 17, 20]),
+            1 => lend.records = self.rng.pick(&[0, 4_096, 65_535, 65_537, 65_540]),
+            2 => lend.widths = self.rng.pick(&[0, 256, 1_023, 1_025, 1_028]),
+            _ => lend = Lend { table: 17, records: 65_535, widths: 1_025 },
+        }
+        Step::Lend(lend)
+    }
+
+    fn remember(&mut self, step: &Step) {
+        if !matches!(step, Step::Open { .. } | Step::Submit { .. } | Step::Close { .. }) {
+            return;
+        }
+        if self.recent.len() == RECENT {
+            let oldest = self.rng.size(RECENT);
+            self.recent.swap_remove(oldest);
+        }
+        self.recent.push(step.clone());
+    }
+}
+
+impl Iterator for Requests {
+    type Item = (Step, Said);
+
+    fn next(&mut self) -> Option<Self::Item> {
+        let step = self.choose();
+        self.remember(&step);
+        let said = self.replay.step(&step);
+        Some((step, said))
+    }
+}

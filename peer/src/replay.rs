@@ -1,0 +1,263 @@
+//! Runs replay scripts over lent memory, on any implementation of the hub.
+
+use std::fmt;
+use std::io::{self, BufRead, Write};
+
+use crate::answer::Answer;
+use crate::hub::{self, Lent};
+use crate::interpret::interpret;
+use crate::listing::Hex;
+use crate::model::{Descriptor, Entry, State, AREA, CODE_POINTS, RECORDS, SLOTS, WIDTHS};
+use crate::record::records;
+use crate::script::{Lend, Step};
+
+/// An implementation of the hub, asked over memory that it is lent for each call.
+pub trait Backend {
+    /// Opens a job.
+    fn open(&mut self, table: &mut [Entry], slot: u32, key: u32, d: &Descriptor) -> Answer;
+    /// Submits a part.
+    fn submit(&mut self, lent: Lent<'_>, slot: u32, key: u32, number: u32, part: &[u8]) -> Answer;
+    /// Closes a job.
+    fn close(&mut self, table: &mut [Entry], slot: u32, key: u32) -> Answer;
+    /// Counts open jobs.
+    fn count(&mut self, table: &[Entry]) -> u32;
+    /// Interprets one part directly.
+    fn direct(
+        &mut self,
+        part: &[u8],
+        widths: &[u16],
+        area: &mut [u8],
+        d: &Descriptor,
+        s: &mut State,
+    ) -> Answer;
+}
+
+/// This crate's own hub.
+#[derive(Clone, Copy, Debug, Default)]
+pub struct Peer;
+
+impl Backend for Peer {
+    fn open(&mut self, table: &mut [Entry], slot: u32, key: u32, d: &Descriptor) -> Answer {
+        hub::open(table, slot, key, d)
+    }
+
+    fn submit(&mut self, lent: Lent<'_>, slot: u32, key: u32, number: u32, part: &[u8]) -> Answer {
+        hub::submit(lent, slot, key, number, part)
+    }
+
+    fn close(&mut self, table: &mut [Entry], slot: u32, key: u32) -> Answer {
+        hub::close(table, slot, key)
+    }
+
+    fn count(&mut self, table: &[Entry]) -> u32 {
+        hub::count(table)
+    }
+
+    fn direct(
+        &mut self,
+        part: &[u8],
+        widths: &[u16],
+        area: &mut [u8],
+        d: &Descriptor,
+        s: &mut State,
+    ) -> Answer {
+        interpret(part, widths, area, d, s)
+    }
+}
+
+/// The memory that a script's requests are lent; beyond the real lengths it is zero and closed.
+#[derive(Clone, Debug, PartialEq, Eq)]
+pub struct Memory {
+    /// The job table, 16 entries and 4 beyond.
+    pub table: Vec<Entry>,
+    /// The record buffer, 65,536 bytes and 4 beyond.
+    pub records: Vec<u8>,
+    /// The width table, 1,024 numbers and 4 beyond.
+    pub widths: Vec<u16>,
+}
+
+impl Memory {
+    /// A fresh table, zero record bytes, widths of 144.
+    fn new() -> Self {
+        let beyond = Entry { state: ZERO_STATE, next: 0, ..Entry::FRESH };
+        let mut memory = Self {
+            table: vec![beyond; Lend::MOST.table],
+            records: vec![0; Lend::MOST.records],
+            widths: vec![0; Lend::MOST.widths],
+        };
+        memory.table[..SLOTS].fill(Entry::FRESH);
+        memory.widths[..WIDTHS].fill(144);
+        memory
+    }
+
+    /// The record bytes of a slot, 0..15.
+    pub fn area(&self, slot: usize) -> &[u8] {
+        &self.records[AREA * slot..][..AREA]
+    }
+}
+
+const ZERO_STATE: State = State {
+    i: 0,
+    b: 0,
+    margin: 0,
+    increment: 0,
+    adjustment: 0,
+    direction: 0,
+    font: 0,
+    colour: 0,
+    space: 0,
+    suppression: 0,
+    chain: 0,
+    used: 0,
+};
+
+/// What a step says.
+#[derive(Clone, Debug, PartialEq, Eq)]
+pub enum Said {
+    /// Nothing.
+    Nothing,
+    /// A request's answer.
+    Answer(Answer),
+    /// The count of open jobs.
+    Count(u32),
+    /// Lines that show memory.
+    Shown(String),
+}
+
+impl fmt::Display for Said {
+    fn fmt(&self, f: &mut fmt::Formatter<'_>) -> fmt::Result {
+        match self {
+            Self::Nothing => Ok(()),
+            Self::Answer(Answer { code, first, second }) => writeln!(f, "{code} {first} {second}"),
+            Self::Count(count) => writeln!(f, "COUNT {count}"),
+            Self::Shown(lines) => f.write_str(lines),
+        }
+    }
+}
+
+/// A hub and the memory it is lent.
+#[derive(Clone, Debug)]
+pub struct Replay<B> {
+    backend: B,
+    memory: Memory,
+    lend: Lend,
+}
+
+impl<B: Backend> Replay<B> {
+    /// Fresh memory, lent in its right lengths.
+    pub fn new(backend: B) -> Self {
+        let lend = Lend { table: SLOTS, records: RECORDS, widths: WIDTHS };
+        Self { backend, memory: Memory::new(), lend }
+    }
+
+    /// The memory as it stands.
+    pub fn memory(&self) -> &Memory {
+        &self.memory
+    }
+
+    /// The lengths lent now.
+    pub fn lend(&self) -> Lend {
+        self.lend
+    }
+
+    /// Runs a script to its end or to its first bad line.
+    pub fn run(&mut self, mut script: impl BufRead, mut out: impl Write) -> io::Result<()> {
+        let mut line = Vec::new();
+        let mut number: u64 = 0;
+        while script.read_until(b'\n', &mut line)? > 0 {
+            number += 1;
+            match self.line(&line) {
+                Some(said) => write!(out, "{said}")?,
+                None => {
+                    writeln!(out, "BAD LINE {number}")?;
+                    break;
+                }
+            }
+            line.clear();
+        }
+        out.flush()
+    }
+
+    /// Does one line, its newline with it. A line cut before its newline is bad.
+    fn line(&mut self, line: &[u8]) -> Option<Said> {
+        let text = line.strip_suffix(b"\n")?;
+        if text.is_empty() || text.starts_with(b"#") {
+            return Some(Said::Nothing);
+        }
+        let step = Step::parse(std::str::from_utf8(text).ok()?)?;
+        Some(self.step(&step))
+    }
+
+    /// Does one step. A slot, font or length that no line can name is as good as no step.
+    pub fn step(&mut self, step: &Step) -> Said {
+        match *step {
+            Step::Widths(width) => self.memory.widths[..WIDTHS].fill(width),
+            Step::Width { font, code_point, width } => {
+                let at = CODE_POINTS * usize::from(font) + usize::from(code_point);
+                if let Some(place) = self.memory.widths[..WIDTHS].get_mut(at) {
+                    *place = width;
+                }
+            }
+            Step::Fill(byte) => self.memory.records[..RECORDS].fill(byte),
+            Step::Fresh => self.memory.table[..SLOTS].fill(Entry::FRESH),
+            Step::Lend(Lend { table, records, widths }) => {
+                self.lend = Lend {
+                    table: table.min(Lend::MOST.table),
+                    records: records.min(Lend::MOST.records),
+                    widths: widths.min(Lend::MOST.widths),
+                }
+            }
+            Step::Set { slot, entry } => {
+                if let Some(place) = self.memory.table[..SLOTS].get_mut(slot) {
+                    *place = entry;
+                }
+            }
+            _ => return self.ask(step),
+        }
+        Said::Nothing
+    }
+
+    /// Does a step that says something.
+    fn ask(&mut self, step: &Step) -> Said {
+        let table = &mut self.memory.table[..self.lend.table];
+        match *step {
+            Step::Open { slot, key, ref descriptor } => {
+                Said::Answer(self.backend.open(table, slot, key, descriptor))
+            }
+            Step::Submit { slot, key, number, ref part } => {
+                let records = &mut self.memory.records[..self.lend.records];
+                let widths = &self.memory.widths[..self.lend.widths];
+                let lent = Lent { table, records, widths };
+                Said::Answer(self.backend.submit(lent, slot, key, number, part))
+            }
+            Step::Close { slot, key } => Said::Answer(self.backend.close(table, slot, key)),
+            Step::Count => Said::Count(self.backend.count(table)),
+            Step::Direct { slot, ref part } if slot < SLOTS => self.direct(slot, part),
+            Step::Show { slot } if slot < SLOTS => self.show(slot),
+            Step::Bytes { slot, from, to } if slot < SLOTS => {
+                let bytes = self.memory.area(slot).get(from..to).unwrap_or(&[]);
+                Said::Shown(format!("{}\n", Hex(bytes)))
+            }
+            _ => Said::Nothing,
+        }
+    }
+
+    /// Asks the interpreter with a slot's own descriptor, state and bytes.
+    fn direct(&mut self, slot: usize, part: &[u8]) -> Said {
+        let entry = &mut self.memory.table[slot];
+        let widths = &self.memory.widths[..self.lend.widths];
+        let area = &mut self.memory.records[AREA * slot..][..AREA];
+        Said::Answer(self.backend.direct(part, widths, area, &entry.descriptor, &mut entry.state))
+    }
+
+    /// The entry, then its records within the bytes used.
+    fn show(&self, slot: usize) -> Said {
+        let entry = &self.memory.table[slot];
+        let used = AREA.min(entry.state.used as usize);
+        let mut lines = format!("JOB {entry}\n");
+        for record in records(&self.memory.area(slot)[..used]) {
+            lines += &format!("{record}\n");
+        }
+        Said::Shown(lines + "END\n")
+    }
+}

@@ -1,0 +1,380 @@
+//! The lines of a replay script, as values and as text.
+
+use std::fmt;
+use std::str::FromStr;
+
+use crate::listing::Hex;
+use crate::model::{kept, Descriptor, Entry, State, AREA, CODE_POINTS, FONTS, SLOTS};
+
+/// Entries, record bytes and widths that the requests of a script are lent.
+#[derive(Clone, Copy, Debug, PartialEq, Eq)]
+pub struct Lend {
+    /// Entries of the table.
+    pub table: usize,
+    /// Record bytes.
+    pub records: usize,
+    /// Widths.
+    pub widths: usize,
+}
+
+impl Lend {
+    /// The most that can be lent.
+    pub const MOST: Self = Self { table: 20, records: 65_540, widths: 1_028 };
+}
+
+/// One line that does something.
+#[derive(Clone, Debug, PartialEq, Eq)]
+pub enum Step {
+    /// Every width becomes this.
+    Widths(u16),
+    /// One width becomes `width`.
+    Width {
+        /// Font, 0..3.
+        font: u8,
+        /// Code point.
+        code_point: u8,
+        /// Its width.
+        width: u16,
+    },
+    /// Every record byte becomes this.
+    Fill(u8),
+    /// A fresh table.
+    Fresh,
+    /// Other lengths from here on, at most [`Lend::MOST`].
+    Lend(Lend),
+    /// Opens a job.
+    Open {
+        /// Slot.
+        slot: u32,
+        /// Key.
+        key: u32,
+        /// Descriptor.
+        descriptor: Descriptor,
+    },
+    /// Submits a part.
+    Submit {
+        /// Slot.
+        slot: u32,
+        /// Key.
+        key: u32,
+        /// Part number.
+        number: u32,
+        /// The part.
+        part: Vec<u8>,
+    },
+    /// Closes a job.
+    Close {
+        /// Slot.
+        slot: u32,
+        /// Key.
+        key: u32,
+    },
+    /// Counts open jobs.
+    Count,
+    /// Interprets a part directly, from a slot's descriptor and state.
+    Direct {
+        /// Slot, 0..15.
+        slot: usize,
+        /// The part.
+        part: Vec<u8>,
+    },
+    /// Makes an entry just this. A line can say marks of 0 and 1 and numbers up to
+    /// 65,535 in the state; a value can hold any.
+    Set {
+        /// Slot, 0..15.
+        slot: usize,
+        /// The entry.
+        entry: Entry,
+    },
+    /// Shows an entry and its records.
+    Show {
+        /// Slot, 0..15.
+        slot: usize,
+    },
+    /// Shows bytes of a slot's area.
+    Bytes {
+        /// Slot, 0..15.
+        slot: usize,
+        /// First byte.
+        from: usize,
+        /// The byte after the last, at most 4,096.
+        to: usize,
+    },
+}
+
+impl Step {
+    /// The step that a line says, without its newline; none for a bad line.
+    pub fn parse(line: &str) -> Option<Self> {
+        let mut words = Words(line.split(' '));
+        let step = match words.0.next()? {
+            "widths" => Self::Widths(words.number()?),
+            "width" => Self::Width {
+                font: words.below(FONTS)? as u8,
+                code_point: words.below(CODE_POINTS)? as u8,
+                width: words.number()?,
+            },
+            "fill" => Self::Fill(words.number()?),
+            "fresh" => Self::Fresh,
+            "lend" => Self::Lend(words.lend()?),
+            "open" => Self::Open {
+                slot: words.number()?,
+                key: words.number()?,
+                descriptor: words.descriptor()?,
+            },
+            "submit" => Self::Submit {
+                slot: words.number()?,
+                key: words.number()?,
+                number: words.number()?,
+                part: words.bytes()?,
+            },
+            "close" => Self::Close { slot: words.number()?, key: words.number()? },
+            "count" => Self::Count,
+            "direct" => Self::Direct { slot: words.slot()?, part: words.bytes()? },
+            "set" => Self::Set { slot: words.slot()?, entry: words.entry()? },
+            "show" => Self::Show { slot: words.slot()? },
+            "bytes" => words.area()?,
+            _ => return None,
+        };
+        words.0.next().is_none().then_some(step)
+    }
+}
+
+/// The words of a line, one space between them.
+struct Words<'a>(std::str::Split<'a, char>);
+
+impl Words<'_> {
+    /// An unsigned number that the type holds.
+    fn number<N: FromStr>(&mut self) -> Option<N> {
+        let word = self.0.next()?;
+        // The library's reading of numbers would let a sign through.
+        word.bytes().all(|byte| byte.is_ascii_digit()).then(|| word.parse().ok())?
+    }
+
+    fn up_to(&mut self, greatest: usize) -> Option<usize> {
+        self.number().filter(|&number| number <= greatest)
+    }
+
+    fn below(&mut self, end: usize) -> Option<usize> {
+        self.number().filter(|&number| number < end)
+    }
+
+    fn slot(&mut self) -> Option<usize> {
+        self.below(SLOTS)
+    }
+
+    /// A position, which may have a minus.
+    fn position(&mut self) -> Option<u32> {
+        let word = self.0.next()?;
+        let digits = word.strip_prefix('-').unwrap_or(word);
+        let plain = digits.bytes().all(|byte| byte.is_ascii_digit());
+        let position: i16 = plain.then(|| word.parse().ok())??;
+        Some(kept(i32::from(position)))
+    }
+
+    /// A number of a state.
+    fn short(&mut self) -> Option<u32> {
+        self.number::<u16>().map(u32::from)
+    }
+
+    fn mark(&mut self) -> Option<u32> {
+        self.below(2).map(|mark| mark as u32)
+    }
+
+    fn lend(&mut self) -> Option<Lend> {
+        Some(Lend {
+            table: self.up_to(Lend::MOST.table)?,
+            records: self.up_to(Lend::MOST.records)?,
+            widths: self.up_to(Lend::MOST.widths)?,
+        })
+    }
+
+    fn area(&mut self) -> Option<Step> {
+        let (slot, from, to) = (self.slot()?, self.number()?, self.up_to(AREA)?);
+        (from <= to).then_some(Step::Bytes { slot, from, to })
+    }
+
+    fn descriptor(&mut self) -> Option<Descriptor> {
+        Some(Descriptor {
+            size_i: self.number()?,
+            size_b: self.number()?,
+            initial_i: self.number()?,
+            initial_b: self.number()?,
+            margin: self.number()?,
+            increment: self.number()?,
+            adjustment: self.number()?,
+            direction: self.number()?,
+            font: self.number()?,
+            colour: self.number()?,
+            rule: self.number()?,
+            hidden: self.number()?,
+        })
+    }
+
+    /// `next` stands before `used`, the state's last number.
+    fn entry(&mut self) -> Option<Entry> {
+        let (key, mark, descriptor) = (self.number()?, self.mark()?, self.descriptor()?);
+        let state = State {
+            i: self.position()?,
+            b: self.position()?,
+            margin: self.short()?,
+            increment: self.short()?,
+            adjustment: self.short()?,
+            direction: self.short()?,
+            font: self.short()?,
+            colour: self.short()?,
+            space: self.short()?,
+            suppression: self.short()?,
+            chain: self.mark()?,
+            used: 0,
+        };
+        let (next, used) = (self.number()?, self.short()?);
+        Some(Entry { key, mark, descriptor, state: State { used, ..state }, next })
+    }
+
+    /// Pairs of hex digits, or a minus for none.
+    fn bytes(&mut self) -> Option<Vec<u8>> {
+        match self.0.next()?.as_bytes() {
+            b"-" => Some(Vec::new()),
+            [] => None,
+            digits => {
+                let (pairs, []) = digits.as_chunks() else {
+                    return None;
+                };
+                pairs.iter().map(|&[high, low]| Some(nibble(high)? << 4 | nibble(low)?)).collect()
+            }
+        }
+    }
+}
+
+fn nibble(digit: u8) -> Option<u8> {
+    char::from(digit).to_digit(16).map(|nibble| nibble as u8)
+}
+
+impl fmt::Display for Step {
+    fn fmt(&self, f: &mut fmt::Formatter<'_>) -> fmt::Result {
+        match self {
+            Self::Widths(width) => write!(f, "widths {width}"),
+            Self::Width { font, code_point, width } => {
+                write!(f, "width {font} {code_point} {width}")
+            }
+            Self::Fill(byte) => write!(f, "fill {byte}"),
+            Self::Fresh => f.write_str("fresh"),
+            Self::Lend(Lend { table, records, widths }) => {
+                write!(f, "lend {table} {records} {widths}")
+            }
+            Self::Open { slot, key, descriptor } => write!(f, "open {slot} {key} {descriptor}"),
+            Self::Submit { slot, key, number, part } => {
+                write!(f, "submit {slot} {key} {number} {}", Hex(part))
+            }
+            Self::Close { slot, key } => write!(f, "close {slot} {key}"),
+            Self::Count => f.write_str("count"),
+            Self::Direct { slot, part } => write!(f, "direct {slot} {}", Hex(part)),
+            Self::Set { slot, entry } => write!(f, "set {slot} {entry}"),
+            Self::Show { slot } => write!(f, "show {slot}"),
+            Self::Bytes { slot, from, to } => write!(f, "bytes {slot} {from} {to}"),
+        }
+    }
+}
+
+impl fmt::Display for Descriptor {
+    fn fmt(&self, f: &mut fmt::Formatter<'_>) -> fmt::Result {
+        write!(
+            f,
+            "{} {} {} {} {} {} {} {} {} {} {} {}",
+            self.size_i,
+            self.size_b,
+            self.initial_i,
+            self.initial_b,
+            self.margin,
+            self.increment,
+            self.adjustment,
+            self.direction,
+            self.font,
+            self.colour,
+            self.rule,
+            self.hidden
+        )
+    }
+}
+
+/// The numbers of `set`, in its order.
+impl fmt::Display for Entry {
+    fn fmt(&self, f: &mut fmt::Formatter<'_>) -> fmt::Result {
+        let signed = |kept_number: u32| i64::from(kept_number) - i64::from(kept(0));
+        let s = &self.state;
+        write!(f, "{} {} {} ", self.key, self.mark, self.descriptor)?;
+        write!(f, "{} {} {} {} ", signed(s.i), signed(s.b), s.margin, s.increment)?;
+        write!(f, "{} {} {} {} ", s.adjustment, s.direction, s.font, s.colour)?;
+        write!(f, "{} {} {} {} {}", s.space, s.suppression, s.chain, self.next, s.used)
+    }
+}
+
+#[cfg(test)]
+mod tests {
+    use super::*;
+
+    fn is_bad(line: &str) -> bool {
+        Step::parse(line).is_none()
+    }
+
+    #[test]
+    fn numbers_are_those_their_type_holds() {
+        for good in ["widths 65535", "fill 255", "width 3 255 0", "lend 20 65540 1028"] {
+            assert!(!is_bad(good), "{good}");
+        }
+        for good in ["close 4294967295 0", "close 007 00", "bytes 15 4096 4096", "direct 15 -"] {
+            assert!(!is_bad(good), "{good}");
+        }
+        for bad in ["widths 65536", "fill 256", "width 4 0 0", "width 0 256 0", "lend 21 0 0"] {
+            assert!(is_bad(bad), "{bad}");
+        }
+        for bad in ["lend 0 65541 0", "lend 0 0 1029", "close 4294967296 0", "close -0 0"] {
+            assert!(is_bad(bad), "{bad}");
+        }
+        for bad in ["close +1 0", "bytes 0 2 1", "bytes 0 0 4097", "bytes 16 0 0", "show 16"] {
+            assert!(is_bad(bad), "{bad}");
+        }
+    }
+
+    #[test]
+    fn spaces_and_words_are_exact() {
+        for bad in ["count ", " count", "Count", "count 1", "close 0", "close 0  1", "close\t0 1"] {
+            assert!(is_bad(bad), "{bad:?}");
+        }
+        for bad in ["count\r", "close 0 ", "fresh#", "direct 0", "direct 0 ", "direct 0 2"] {
+            assert!(is_bad(bad), "{bad:?}");
+        }
+        for bad in ["direct 0 2g", "direct 0 --", "direct 0 2B -", "direct 0 é", "widths ٣"] {
+            assert!(is_bad(bad), "{bad:?}");
+        }
+        let part = vec![0x2B, 0xD3, 0x02, 0xD8];
+        assert_eq!(Step::parse("direct 1 2bD302d8"), Some(Step::Direct { slot: 1, part }));
+    }
+
+    #[test]
+    fn set_takes_marks_of_0_and_1_and_signed_positions() {
+        let line = |open: &str, i: &str, chain: &str, used: &str| {
+            format!(
+                "set 0 1 {open} 1 2 3 4 5 6 7 8 9 10 11 12 {i} 0 1 2 3 4 5 6 7 8 {chain} 9 {used}"
+            )
+        };
+        for (open, i, chain, used) in
+            [("0", "-32768", "0", "0"), ("1", "32767", "1", "65535"), ("1", "-0", "0", "1")]
+        {
+            assert!(!is_bad(&line(open, i, chain, used)));
+        }
+        for (open, i, chain, used) in [
+            ("2", "0", "0", "0"),
+            ("0", "-32769", "0", "0"),
+            ("0", "32768", "0", "0"),
+            ("0", "-", "0", "0"),
+            ("0", "--1", "0", "0"),
+            ("0", "+1", "0", "0"),
+            ("0", "0", "2", "0"),
+            ("0", "0", "0", "65536"),
+            ("0", "0", "0", "-1"),
+        ] {
+            assert!(is_bad(&line(open, i, chain, used)), "{open} {i} {chain} {used}");
+        }
+    }
+}

@@ -1,0 +1,121 @@
+//! What the listing and the replay print.
+
+mod common;
+
+use common::hex;
+use peer::listing;
+use peer::replay::{Peer, Replay};
+
+fn replayed(script: &[u8]) -> String {
+    let mut out = Vec::new();
+    Replay::new(Peer).run(script, &mut out).expect("memory takes all");
+    String::from_utf8(out).expect("plain text")
+}
+
+const SHEET: &str = "12240 15840 0 0 0 240 0 0 0 65287 14 0";
+
+#[test]
+fn the_listing_of_the_paper() {
+    let part = hex("2BD304C702D004D201E0C1C2");
+    let lines = "PART 12\nT 720 480 0 65287 0 65535 C1C2\nEND 1008 480 3 18\n";
+    assert_eq!(listing(&part), lines);
+}
+
+#[test]
+fn listings_of_rules_and_refusals() {
+    assert_eq!(listing(&[]), "PART 0\nEND 0 0 0 0\n");
+    assert_eq!(
+        listing(&hex("2BD304C9FFFB 05C3000201 04C70064 04DBC1C2 07E6000AFFFFFF")),
+        "PART 26\nT 100 0 0 65287 -2 65535 C1C2\nR 384 0 1 65287 10 14\nEND 384 0 5 34\n"
+    );
+    assert_eq!(listing(&hex("2BD304C9FFFB")), "PART 6\nEND -5 0 1 0\n");
+    assert_eq!(listing(&hex("C12BC1")), "PART 3\nREFUSED 21 1\n");
+    assert_eq!(listing(&[0x2B; 8_193]), "PART 8193\nREFUSED 19 0\n");
+    assert_eq!(listing(&[0x2B; 9_000]), "PART 8193\nREFUSED 19 0\n");
+}
+
+#[test]
+fn a_tenant_that_retries() {
+    let script = b"open 3 17 12240 15840 0 0 0 240 0 0 0 65287 14 0
+submit 3 17 1 2BD304C702D004D201E0C1C2
+submit 3 17 1 2BD304C702D004D201E0C1C2
+show 3
+";
+    let printed = "0 0 0
+0 3 18
+1 0 0
+JOB 17 1 12240 15840 0 0 0 240 0 0 0 65287 14 0 1008 480 0 240 0 0 0 65287 65535 0 0 2 18
+T 720 480 0 65287 0 65535 C1C2
+END
+";
+    assert_eq!(replayed(script), printed);
+}
+
+#[test]
+fn a_bad_line_ends_the_run() {
+    assert_eq!(replayed(b""), "");
+    assert_eq!(
+        replayed(b"count\n\n# said\ncount\nCount\ncount\n"),
+        "COUNT 0\nCOUNT 0\nBAD LINE 5\n"
+    );
+    assert_eq!(replayed(b"count\ncount"), "COUNT 0\nBAD LINE 2\n");
+    assert_eq!(replayed(b"# \xFF\xFE\n\xFF\n"), "BAD LINE 2\n");
+    assert_eq!(replayed(b"count\r\n"), "BAD LINE 1\n");
+}
+
+#[test]
+fn lent_lengths_and_memory() {
+    let script = format!(
+        "fill 171\nopen 0 1 {SHEET}\nlend 15 65536 1024\ncount\nclose 0 1\nlend 16 65535 1024\n\
+         submit 0 1 1 -\nlend 16 65536 1023\nsubmit 0 1 1 -\ndirect 0 -\nlend 0 0 1024\n\
+         direct 0 c1\nlend 16 65536 1024\ncount\nbytes 0 15 18\nbytes 0 4096 4096\nfresh\n\
+         count\nbytes 0 15 18\nshow 0\n"
+    );
+    let printed = "0 0 0\nCOUNT 0\n10 0 0\n10 0 0\n10 0 0\n10 0 0\n0 1 17\nCOUNT 1\nFFC1AB\n-\n\
+                   COUNT 0\nFFC1AB\n\
+                   JOB 0 0 0 0 0 0 0 0 0 0 0 0 0 0 0 0 0 0 0 0 0 0 65535 0 0 1 0\nEND\n";
+    assert_eq!(replayed(script.as_bytes()), printed);
+}
+
+#[test]
+fn widths_change_by_font_and_code_point() {
+    let script = format!(
+        "widths 10\nwidth 1 193 7\nopen 0 1 {SHEET}\ndirect 0 C1\ndirect 0 2BD303F001C1\n\
+         set 1 9 0 {SHEET} -32768 32767 1 2 3 4 5 6 7 8 1 4294967295 65535\nshow 0\nshow 1\n"
+    );
+    let printed = format!(
+        "0 0 0\n0 1 17\n0 2 17\n\
+         JOB 1 1 {SHEET} 17 0 0 240 0 0 1 65287 65535 0 0 1 34\n\
+         T 0 0 0 65287 0 65535 C1\nT 10 0 1 65287 0 65535 C1\nEND\n\
+         JOB 9 0 {SHEET} -32768 32767 1 2 3 4 5 6 7 8 1 4294967295 65535\nEND\n"
+    );
+    assert_eq!(replayed(script.as_bytes()), printed);
+}
+
+#[test]
+fn records_are_shown_up_to_used_or_to_where_they_stop_being_whole() {
+    let set = |used: u32| format!("set 0 1 1 {SHEET} 0 0 0 240 0 0 0 65287 65535 0 0 1 {used}\n");
+    let script = format!(
+        "open 0 1 {SHEET}\ndirect 0 C1\ndirect 0 2BD304E40005\n{}show 0\n{}show 0\n{}show 0\n",
+        set(32),
+        set(17),
+        set(4_097)
+    );
+    let text = "T 0 0 0 65287 0 65535 C1\n";
+    let rule = "R 144 0 0 65287 5 14\n";
+    let shown: Vec<String> = replayed(script.as_bytes())
+        .split_inclusive("END\n")
+        .map(|lines| {
+            lines
+                .lines()
+                .skip_while(|l| !l.starts_with("JOB"))
+                .skip(1)
+                .map(|l| l.to_owned() + "\n")
+                .collect()
+        })
+        .collect();
+    assert_eq!(
+        shown,
+        [format!("{text}END\n"), format!("{text}END\n"), format!("{text}{rule}END\n")]
+    );
+}
