@@ -1,0 +1,170 @@
+-- A request is refused and changes nothing, or its checks have passed: then the step is what the rules make of its entry and its area.
+-- Assumes nothing.
+use Prim.Native.Nat.{ℕ, _<_}
+use mathlib.Core.Path.{_≡_, refl, _∙_}
+use mathlib.Core.Bool.{Bool, true, false, not, _&&_}
+use mathlib.Core.List.{List}
+use native.Mathlib.Omega.{arith}
+use lib.ListN.{length, set}
+use lib.Seq.{set-getD, getD-set-same}
+use lib.Dec.{ltb, leb, eqb}
+use borrow.Author.Tests.{lt-ltb, ltb-true, eqb-true, eqb-false, not-true}
+use Rattle.part.specs.Checks.{Checked, fine, fault}
+use Rattle.part.specs.Ranges.{_to_, _∈_, hold, descriptorFields}
+use Rattle.part.specs.Part.{interpreted}
+use Rattle.part.specs.declared.shapes.Descriptor.{Descriptor}
+use Rattle.part.proofs.Checks.{first-of, second-of, Gives, value, refusal, gives-test, gives-where, gives-so}
+use Rattle.part.proofs.Refusals.{untouched}
+use Rattle.hub.specs.Entries.{isOpen, isOpenUnder, isOldKey, damaged, fresh}
+use Rattle.hub.specs.Requests.{mayOpen, judged, maySubmit, mayClose, opening, closing, submitting, areaTaken, areaOf, isTable, isStore, Hub, hub, Request, Open, Submit, Close, slotOf, isLent, onEntry, onRecords, step}
+use Rattle.hub.specs.Histories.{entryOf}
+use Rattle.hub.specs.declared.jobs.Entry.{Entry}
+use Rattle.hub.proofs.Slots.{with-same}
+
+-- ---- where a check passes, so has each of its tests; where it doesn't, its code isn't 0
+
+abbrev pub Refuses : ℕ → Type 0
+Refuses code = eqb code 0 ≡ false
+
+pub record OpenTests (key : ℕ) (d : Descriptor) (e : Entry) : Type 0 where
+  pub newKey : isOldKey e key ≡ false
+  pub ranges : hold (descriptorFields d) ≡ true
+
+pub record SubmitTests (key number : ℕ) (e : Entry) : Type 0 where
+  pub undamaged : damaged e ≡ false
+  pub under : isOpenUnder e key ≡ true
+  pub good : (number ∈ 1 to 65535) ≡ true
+  pub isNew : leb (e .next) number ≡ true
+  pub isNear : leb number (e .next) ≡ true
+
+pub record CloseTests (key : ℕ) (e : Entry) : Type 0 where
+  pub under : isOpenUnder e key ≡ true
+
+pub open-tests : (key : ℕ) (d : Descriptor) (e : Entry) → Gives (λ _. OpenTests key d e) Refuses (mayOpen key d e)
+unfolding mayOpen
+open-tests key d e =
+    gives-where (not (damaged e)) 12 _ refl λ _.
+    gives-where (not (isOpenUnder e key)) 1 _ refl λ _.
+    gives-where (not (isOpen e)) 13 _ refl λ _.
+    gives-where (not (isOldKey e key)) 14 _ refl λ newKey.
+    gives-so (λ _ ranges. record { newKey = not-true (isOldKey e key) newKey; ranges = ranges }) (λ _ q. q) (gives-test (hold (descriptorFields d)) 15 refl)
+
+pub submit-tests : (key number : ℕ) (e : Entry) → Gives (λ _. SubmitTests key number e) Refuses (maySubmit key number e)
+unfolding maySubmit judged
+submit-tests key number e =
+    gives-where (not (damaged e)) 12 _ refl λ undamaged.
+    gives-where (isOpenUnder e key) 16 _ refl λ under.
+    gives-where (number ∈ 1 to 65535) 17 _ refl λ good.
+    gives-where (leb (e .next) number) 1 _ refl λ isNew.
+    gives-so (λ _ isNear. record { undamaged = not-true (damaged e) undamaged; under = under; good = good; isNew = isNew; isNear = isNear }) (λ _ q. q) (gives-test (leb number (e .next)) 18 refl)
+
+pub close-tests : (key : ℕ) (e : Entry) → Gives (λ _. CloseTests key e) Refuses (mayClose key e)
+unfolding mayClose
+close-tests key e =
+    gives-where (not (damaged e)) 12 _ refl λ _.
+    gives-where (not (not (isOpen e) && eqb (e .key) key && ltb 0 key)) 1 _ refl λ _.
+    gives-so (λ _ under. record { under = under }) (λ _ q. q) (gives-test (isOpenUnder e key) 16 refl)
+
+module _ (widths : List ℕ) (h : Hub) where
+  -- ---- all lengths are right and the slot is one: the request comes to its entry
+
+  pub record Here (r : Request) : Type 0 where
+    pub lent : isLent widths h r ≡ true
+    pub low : slotOf r < 16
+    pub answers : step widths h r .answer ≡ onEntry widths h r (entryOf h (slotOf r)) .answer
+    pub leaves : step widths h r .after ≡ hub (set (h .table) (slotOf r) (onEntry widths h r (entryOf h (slotOf r)) .entry)) (onRecords widths h r (entryOf h (slotOf r)))
+
+  pub here : (r : Request) → isLent widths h r ≡ true → slotOf r < 16 → Here r
+  unfolding step
+  here r lent low = let is = lt-ltb (slotOf r) 16 low in record { lent = lent; low = low; answers = rw (lent, is); leaves = rw (lent, is) }
+
+  sizes : isStore (h .table) (h .records) widths ≡ true → (length (h .table) ≡ 16) × (length (h .records) ≡ 65536)
+  sizes lent =
+      let a = isTable (h .table) in
+      let b = eqb (length (h .records)) 65536 in
+      let both = first-of (a && b) (eqb (length widths) 1024) lent in
+      (eqb-true _ 16 (first-of a b both), eqb-true _ 65536 (second-of a b both))
+
+  sixteen : (r : Request) → isLent widths h r ≡ true → length (h .table) ≡ 16
+  sixteen (Open slot key d) lent = eqb-true (length (h .table)) 16 lent
+  sixteen (Submit slot key number part) lent = sizes lent .0
+  sixteen (Close slot key) lent = eqb-true (length (h .table)) 16 lent
+
+  pub whole : (slot key number : ℕ) (part : List ℕ) → Here (Submit slot key number part) → length (h .records) ≡ 65536
+  whole slot key number part x = sizes (x .lent) .1
+
+  pub there : (r : Request) → Here r → entryOf (step widths h r .after) (slotOf r) ≡ onEntry widths h r (entryOf h (slotOf r)) .entry
+  there r x =
+      let n = sixteen r (x .lent) in
+      let low = x .low in
+      rw (x .leaves) (getD-set-same (h .table) (slotOf r) (onEntry widths h r (entryOf h (slotOf r)) .entry) fresh (omega arith))
+
+  -- ---- and all its checks have passed, or it is refused
+
+  abbrev pub Passed : Request → Type 0
+  Passed (Open slot key d) = (mayOpen key d (entryOf h slot) ≡ fine tt) × OpenTests key d (entryOf h slot)
+  Passed (Submit slot key number part) =
+      (maySubmit key number (entryOf h slot) ≡ fine tt) × SubmitTests key number (entryOf h slot)
+      × (interpreted widths (entryOf h slot .descriptor) (entryOf h slot .state) part (areaOf (h .records) slot) .answer .code ≡ 0)
+  Passed (Close slot key) = (mayClose key (entryOf h slot) ≡ fine tt) × CloseTests key (entryOf h slot)
+
+  pub data Decision (r : Request) : Type 0 where
+    refused : Refuses (step widths h r .answer .code) → step widths h r .after ≡ h → Decision r
+    done : step widths h r .answer .code ≡ 0 → Here r → Passed r → Decision r
+
+  -- an entry put back as it was, beside the same records
+  back : (slot : ℕ) (records : List ℕ) → records ≡ h .records → hub (set (h .table) slot (entryOf h slot)) records ≡ h
+  back slot records same = rw (set-getD (h .table) slot fresh, same)
+
+  open-decided : (slot key : ℕ) (d : Descriptor) → Here (Open slot key d) → Decision (Open slot key d)
+  unfolding opening
+  open-decided slot key d x = go (mayOpen key d (entryOf h slot)) refl (open-tests key d (entryOf h slot))
+    where
+      go : (m : Checked Unit) → mayOpen key d (entryOf h slot) ≡ m → Gives (λ _. OpenTests key d (entryOf h slot)) Refuses m → Decision (Open slot key d)
+      go (fine _) is (value tests) = done (rw (x .answers, is)) x (is, tests)
+      go (fault code at) is (refusal q) = refused (rw (x .answers, is) q) (x .leaves ∙ rw is (back slot _ refl))
+
+  close-decided : (slot key : ℕ) → Here (Close slot key) → Decision (Close slot key)
+  unfolding closing
+  close-decided slot key x = go (mayClose key (entryOf h slot)) refl (close-tests key (entryOf h slot))
+    where
+      go : (m : Checked Unit) → mayClose key (entryOf h slot) ≡ m → Gives (λ _. CloseTests key (entryOf h slot)) Refuses m → Decision (Close slot key)
+      go (fine _) is (value tests) = done (rw (x .answers, is)) x (is, tests)
+      go (fault code at) is (refusal q) = refused (rw (x .answers, is) q) (x .leaves ∙ rw is (back slot _ refl))
+
+  submit-decided : (slot key number : ℕ) (part : List ℕ) → Here (Submit slot key number part) → Decision (Submit slot key number part)
+  unfolding submitting areaTaken
+  submit-decided slot key number part x = go (maySubmit key number e) refl (submit-tests key number e)
+    where
+      e : Entry
+      e = entryOf h slot
+
+      area : List ℕ
+      area = areaOf (h .records) slot
+
+      partCode : ℕ
+      partCode = interpreted widths (e .descriptor) (e .state) part area .answer .code
+
+      by-part : maySubmit key number e ≡ fine tt → SubmitTests key number e → (t : Bool) → eqb partCode 0 ≡ t → Decision (Submit slot key number part)
+      by-part is tests true nought = done (rw (x .answers, is) (eqb-true partCode 0 nought)) x (is, tests, eqb-true partCode 0 nought)
+      by-part is tests false other =
+          let same = untouched widths (e .descriptor) (e .state) part area (eqb-false partCode 0 other) in
+          refused (rw (x .answers, is) other) (x .leaves ∙ rw (is, other, same .1) (back slot _ (with-same (h .records) slot)))
+
+      go : (m : Checked Unit) → maySubmit key number e ≡ m → Gives (λ _. SubmitTests key number e) Refuses m → Decision (Submit slot key number part)
+      go (fine _) is (value tests) = by-part is tests (eqb partCode 0) refl
+      go (fault code at) is (refusal q) = refused (rw (x .answers, is) q) (x .leaves ∙ rw is (back slot _ (with-same (h .records) slot)))
+
+  here-decided : (r : Request) → Here r → Decision r
+  here-decided (Open slot key d) x = open-decided slot key d x
+  here-decided (Submit slot key number part) x = submit-decided slot key number part x
+  here-decided (Close slot key) x = close-decided slot key x
+
+  pub decision : (r : Request) → Decision r
+  unfolding step
+  decision r = go (isLent widths h r) refl (ltb (slotOf r) 16) refl
+    where
+      go : (t : Bool) → isLent widths h r ≡ t → (u : Bool) → ltb (slotOf r) 16 ≡ u → Decision r
+      go true a true b = here-decided r (here r a (ltb-true (slotOf r) 16 b))
+      go true a false b = refused (rw (a, b)) (rw (a, b))
+      go false a u b = refused (rw a) (rw a)

@@ -1,0 +1,77 @@
+-- A job that is kept by the rules is so with one more accepted part: the rules go on from where the parts before it left off.
+-- Assumes nothing.
+use Prim.Native.Nat.{ℕ, zero, suc, _+_}
+use mathlib.Core.Path.{_≡_, refl, sym, _∙_, ap}
+use mathlib.Core.List.{List, [], _∷_, _++_, append-assoc, append-nil, map, map-append}
+use native.Mathlib.Omega.{arith}
+use native.Mathlib.Nat.{add-zero}
+use lib.ListN.{length, take, length-append}
+use Rattle.part.specs.Checks.{Checked, fine, fault}
+use Rattle.part.specs.Reading.{cut}
+use Rattle.part.specs.Records.{allBytes, spliced}
+use Rattle.part.specs.Place.{Effect}
+use Rattle.part.specs.Part.{elements}
+use Rattle.part.specs.declared.shapes.Descriptor.{Descriptor}
+use Rattle.part.specs.declared.shapes.State.{State}
+use Rattle.part.proofs.Parts.{_then_, allBytes-join}
+use Rattle.part.proofs.Accepting.{Accepted, then-then}
+use Rattle.hub.specs.Entries.{entry, firstState, goneOn}
+use Rattle.hub.specs.Histories.{Numbered, Job, withPart, partsFrom, counting}
+use Rattle.hub.specs.Promises.{Kept}
+use Rattle.hub.specs.declared.jobs.Entry.{Entry}
+use Rattle.hub.proofs.Bytes.{up-to}
+
+-- some numbers, and the next one
+count-on : (n many : ℕ) → counting n (suc many) ≡ counting n many ++ (n + many) ∷ []
+count-on n zero = rw add-zero
+count-on n (suc many) = ap (λ (t : List ℕ). n ∷ t) (count-on (n + 1) many ∙ ap (λ (m : ℕ). counting (n + 1) many ++ m ∷ []) (let z : n + 1 + many ≡ n + suc many = omega arith in z))
+
+module _ (widths : List ℕ) (d : Descriptor) where
+  -- some parts, and one more
+  parts-on : (s : State) (ps : List (List ℕ)) (p : List ℕ) → partsFrom widths d s (ps ++ p ∷ []) ≡ _then_ (partsFrom widths d s ps) (λ t. elements widths d t (cut (t .chain) p))
+  unfolding partsFrom
+  parts-on s [] p = alone (elements widths d s (cut (s .chain) p))
+    where
+      alone : (m : Checked Effect) → _then_ m (λ t. fine (record { state = t; items = [] })) ≡ _then_ (fine (record { state = s; items = [] })) (λ _. m)
+      alone (fine e) = rw append-nil
+      alone (fault code at) = refl
+  parts-on s (q ∷ ps) p = go (elements widths d s (cut (s .chain) q)) (λ t. parts-on t ps p)
+    where
+      go : (m : Checked Effect) → ((t : State) → partsFrom widths d t (ps ++ p ∷ []) ≡ _then_ (partsFrom widths d t ps) (λ t. elements widths d t (cut (t .chain) p)))
+          → _then_ m (λ t. partsFrom widths d t (ps ++ p ∷ [])) ≡ _then_ (_then_ m (λ t. partsFrom widths d t ps)) (λ t. elements widths d t (cut (t .chain) p))
+      go (fine e) k = rw (k (e .state)) (then-then (fine e) (λ t. partsFrom widths d t ps) (λ t. elements widths d t (cut (t .chain) p)))
+      go (fault code at) k = refl
+
+module _ (widths : List ℕ) (j : Job) (e : Entry) (area : List ℕ) (number : ℕ) (part : List ℕ) (f : Effect) where
+  pub part-kept : e .next ≡ number → Accepted widths (e .descriptor) (e .state) part area f → Kept widths j e area
+      → Kept widths (withPart j (record { number = number; part = part })) (goneOn e (f .state)) (spliced area (e .state .used) (allBytes (f .items)))
+  part-kept next taken k =
+      let p : Numbered = record { number = number; part = part } in
+      let n = length (j .parts) in
+      let bytes = allBytes (f .items) in
+      let long = length-append (j .parts) (p ∷ []) in
+      let was = ap (λ (x : Entry). x .next) (k .itsEntry) in
+      let passed = rw (k .itsEntry) at (taken .passed) in
+      let grows = taken .grows in
+      record {
+        inOrder =
+            map-append (λ (x : Numbered). x .number) (j .parts) (p ∷ [])
+            ∙ ap (λ (t : List ℕ). t ++ number ∷ []) (k .inOrder)
+            ∙ ap (λ (m : ℕ). counting 1 n ++ m ∷ []) (let z : number ≡ 1 + n = omega arith in z)
+            ∙ sym (count-on 1 n)
+            ∙ ap (counting 1) (let z : suc n ≡ length (j .parts ++ p ∷ []) = omega arith in z);
+        result = record { state = f .state; items = k .result .items ++ f .items };
+        byRules =
+            ap (partsFrom widths (j .descriptor) (firstState (j .descriptor))) (map-append (λ (x : Numbered). x .part) (j .parts) (p ∷ []))
+            ∙ parts-on widths (j .descriptor) (firstState (j .descriptor)) (map (λ x. x .part) (j .parts)) part
+            ∙ rw (k .byRules, passed);
+        itsEntry =
+            ap (λ (x : Entry). goneOn x (f .state)) (k .itsEntry)
+            ∙ ap (λ (m : ℕ). entry (j .key) 1 (j .descriptor) (f .state) (m + 1)) (sym long);
+        itsRecords =
+            ap (λ (m : ℕ). j .taken ++ take m (spliced area (e .state .used) bytes)) grows
+            ∙ ap (λ (t : List ℕ). j .taken ++ t) (up-to area (e .state .used) bytes (taken .fits))
+            ∙ sym (append-assoc (j .taken) (take (e .state .used) area) bytes)
+            ∙ ap (λ (t : List ℕ). t ++ bytes) (k .itsRecords)
+            ∙ sym (allBytes-join (k .result .items) (f .items));
+      }

@@ -1,0 +1,151 @@
+-- After any requests from a fresh table each slot's job is kept by the rules: each request keeps it so, at its own slot and at the others.
+-- Assumes nothing.
+use Prim.Native.Nat.{ℕ, zero, suc, _≤_}
+use mathlib.Core.Path.{_≡_, refl, _∙_}
+use mathlib.Core.Bool.{Bool, true, false, _&&_}
+use mathlib.Core.List.{List, [], _∷_}
+use native.Mathlib.Omega.{arith}
+use lib.ListN.{getD, replicate}
+use lib.Dec.{leb, eqb}
+use borrow.Author.Tests.{leb-true, eqb-true, eqb-false}
+use Rattle.part.specs.Numbers.{if_then_else_}
+use Rattle.part.specs.Records.{allBytes, spliced}
+use Rattle.part.specs.declared.shapes.Descriptor.{Descriptor}
+use Rattle.part.proofs.Checks.{first-of, second-of}
+use Rattle.part.proofs.Areas.{spliced-length}
+use Rattle.part.proofs.Accepting.{accepted}
+use Rattle.hub.specs.Entries.{isOpen, isOpenUnder, damaged, firstState, fresh, freshTable}
+use Rattle.hub.specs.Requests.{opening, closing, submitting, areaTaken, areaOf, Hub, hub, Request, Open, Submit, Close, slotOf, step, steps}
+use Rattle.hub.specs.Histories.{entryOf, Account, idle, running, noted, account, partsFrom}
+use Rattle.hub.specs.Promises.{Agrees, Fresh, Holds}
+use Rattle.hub.specs.declared.jobs.Entry.{Entry}
+use Rattle.hub.proofs.Slots.{own-length, with-own}
+use Rattle.hub.proofs.Reaching.{other-entry, other-area}
+use Rattle.hub.proofs.Deciding.{SubmitTests, Here, there, whole, Passed, Decision, refused, done, decision}
+use Rattle.hub.proofs.Ranging.{in-range, opened-undamaged, gone-on-undamaged}
+use Rattle.hub.proofs.Growing.{part-kept}
+
+-- ---- what was tested of a part that is taken
+
+pub record Awaits (number : ℕ) (e : Entry) : Type 0 where
+  pub undamaged : damaged e ≡ false
+  pub is : isOpen e ≡ true
+  pub isNext : e .next ≡ number
+  pub least : 1 ≤ number
+  pub most : number ≤ 65535
+
+pub under-open : (e : Entry) (key : ℕ) → isOpenUnder e key ≡ true → isOpen e ≡ true
+under-open e key h = go (isOpen e) refl
+  where
+    go : (t : Bool) → isOpen e ≡ t → isOpen e ≡ true
+    go true is = is
+    go false shut = let z : false ≡ true = rw shut at h in cc
+
+pub awaits : (key number : ℕ) (e : Entry) → SubmitTests key number e → Awaits number e
+awaits key number e t =
+    let a = leb-true (e .next) number (t .isNew) in
+    let b = leb-true number (e .next) (t .isNear) in
+    record {
+      undamaged = t .undamaged;
+      is = under-open e key (t .under);
+      isNext = omega arith;
+      least = leb-true 1 number (first-of (leb 1 number) (leb number 65535) (t .good));
+      most = leb-true number 65535 (second-of (leb 1 number) (leb number 65535) (t .good));
+    }
+
+module _ (widths : List ℕ) where
+  -- what holds of a slot at any time
+  pub record Sound (a : Account) (h : Hub) (slot : ℕ) : Type 0 where
+    pub agrees : Agrees widths a (entryOf h slot) (areaOf (h .records) slot)
+    pub undamaged : damaged (entryOf h slot) ≡ false
+
+  -- ---- a request on the slot itself
+
+  module _ (h : Hub) (slot key : ℕ) where
+    open-sound : (a : Account) (d : Descriptor) → Here widths h (Open slot key d) → Passed widths h (Open slot key d) → Sound (noted a (Open slot key d)) (step widths h (Open slot key d) .after) slot
+    unfolding opening partsFrom
+    open-sound a d x passed =
+        let now = there widths h (Open slot key d) x in
+        record {
+          agrees = rw (now, passed .0) (record { inOrder = refl; result = record { state = firstState d; items = [] }; byRules = refl; itsEntry = refl; itsRecords = refl });
+          undamaged = rw (now, passed .0) (opened-undamaged key d (passed .1 .ranges));
+        }
+
+    close-sound : (a : Account) → Here widths h (Close slot key) → Passed widths h (Close slot key) → Sound (noted a (Close slot key)) (step widths h (Close slot key) .after) slot
+    unfolding closing
+    close-sound a x passed = let now = there widths h (Close slot key) x in record { agrees = rw (now, passed .0); undamaged = rw (now, passed .0) }
+
+    submit-sound : (a : Account) (number : ℕ) (part : List ℕ) → Here widths h (Submit slot key number part) → Passed widths h (Submit slot key number part) → Sound a h slot
+        → Sound (noted a (Submit slot key number part)) (step widths h (Submit slot key number part) .after) slot
+    unfolding submitting areaTaken
+    submit-sound idle number part x passed s =
+        let shut = s .agrees in
+        let is = awaits key number (entryOf h slot) (passed .1) .is in
+        absurd (let z : _≡_ {A = ℕ} 0 1 = cc in omega arith)
+    submit-sound (running j) number part x passed s =
+        let r = Submit slot key number part in
+        let e = entryOf h slot in
+        let area = areaOf (h .records) slot in
+        let now = there widths h r x in
+        let tested = awaits key number e (passed .1) in
+        let next = tested .isNext in
+        let most = tested .most in
+        let (f, taken) = accepted widths (e .descriptor) (e .state) part area (passed .2) in
+        let long = whole widths h slot key number part x in
+        let area′ = spliced area (e .state .used) (allBytes (f .items)) in
+        let own = with-own (h .records) slot long (x .low) area′ (spliced-length area (e .state .used) (allBytes (f .items)) (taken .fits) ∙ own-length (h .records) slot long (x .low)) in
+        record {
+          agrees = rw (now, x .leaves, passed .0, passed .2, taken .itsState, taken .itsArea, own) (part-kept widths j e area number part f next taken (s .agrees));
+          undamaged = rw (now, passed .0, passed .2, taken .itsState) (gone-on-undamaged e (f .state) (in-range e (tested .is) (tested .undamaged)) (taken .kept) (omega arith));
+        }
+
+  own-sound : (a : Account) (h : Hub) (r : Request) → Here widths h r → Passed widths h r → Sound a h (slotOf r) → Sound (noted a r) (step widths h r .after) (slotOf r)
+  own-sound a h (Open slot key d) x passed s = open-sound h slot key a d x passed
+  own-sound a h (Submit slot key number part) x passed s = submit-sound h slot key a number part x passed s
+  own-sound a h (Close slot key) x passed s = close-sound h slot key a x passed
+
+  -- ---- a request on another slot
+
+  other-sound : (a : Account) (h : Hub) (r : Request) (slot : ℕ) → (slotOf r ≡ slot → ⊥) → Sound a h slot → Sound a (step widths h r .after) slot
+  other-sound a h r slot n s = record {
+    agrees = rw (other-entry widths h r slot n, other-area widths h r slot n) (s .agrees);
+    undamaged = rw (other-entry widths h r slot n) (s .undamaged);
+  }
+
+  -- ---- any request, and any number of them
+
+  abbrev after : ℕ → Account → Hub → Request → Account
+  after slot a h r = if eqb (slotOf r) slot && eqb (step widths h r .answer .code) 0 then noted a r else a
+
+  step-sound : (a : Account) (h : Hub) (r : Request) (slot : ℕ) → Sound a h slot → Sound (after slot a h r) (step widths h r .after) slot
+  step-sound a h r slot s = go (eqb (slotOf r) slot) refl
+    where
+      own : Decision widths h r → slotOf r ≡ slot → Sound (if eqb (step widths h r .answer .code) 0 then noted a r else a) (step widths h r .after) slot
+      own (refused q same) e = rw (q, same) s
+      own (done nought x passed) e = rw (nought, ← e) (own-sound a h r x passed (rw e s))
+
+      go : (t : Bool) → eqb (slotOf r) slot ≡ t → Sound (if t && eqb (step widths h r .answer .code) 0 then noted a r else a) (step widths h r .after) slot
+      go true e = own (decision widths h r) (eqb-true (slotOf r) slot e)
+      go false e = other-sound a h r slot (eqb-false (slotOf r) slot e) s
+
+  steps-sound : (a : Account) (h : Hub) (rs : List Request) (slot : ℕ) → Sound a h slot → Sound (account widths slot h a rs) (steps widths h rs) slot
+  unfolding account steps
+  steps-sound a h [] slot s = s
+  steps-sound a h (r ∷ rs) slot s = steps-sound (after slot a h r) (step widths h r .after) rs slot (step-sound a h r slot s)
+
+  fresh-sound : (h : Hub) (slot : ℕ) → Fresh h → Sound idle h slot
+  fresh-sound h slot f = record { agrees = f .allClosed slot; undamaged = rw (f .allClosed slot) }
+
+pub holds : Holds
+holds widths h f rs slot = let s = steps-sound widths idle h rs slot (fresh-sound widths h slot f) in (s .agrees, s .undamaged)
+
+-- ---- and there is a fresh table
+
+pub fresh-table : (records : List ℕ) → Fresh (hub freshTable records)
+unfolding fresh
+fresh-table records = record { sixteen = refl; allClosed = λ slot. rw (same 16 slot); noKeys = λ slot. rw (same 16 slot) }
+  where
+    same : (n i : ℕ) → getD (replicate n fresh) i fresh ≡ fresh
+    same zero i = refl
+    same (suc n) zero = refl
+    same (suc n) (suc i) = same n i

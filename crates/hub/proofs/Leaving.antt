@@ -1,0 +1,61 @@
+-- Every code but 0 leaves all that was lent untouched; with 0, everything not named stays.
+-- Assumes nothing.
+use Prim.Native.Nat.{ℕ}
+use mathlib.Core.Path.{_≡_, sym}
+use mathlib.Core.List.{List}
+use native.Mathlib.Omega.{arith}
+use lib.ListN.{getD}
+use borrow.Author.Tests.{eqb-false}
+use Rattle.part.specs.Records.{allBytes}
+use Rattle.part.proofs.Accepting.{accepted}
+use Rattle.hub.specs.Requests.{opening, closing, submitting, areaTaken, areaOf, Hub, Request, Open, Submit, Close, slotOf, step}
+use Rattle.hub.specs.Histories.{entryOf}
+use Rattle.hub.specs.Promises.{Writes, Leaves, OnlyItsOwn, Untouched}
+use Rattle.hub.proofs.Bytes.{area-outside}
+use Rattle.hub.proofs.Reaching.{table-size, records-size, other-entry}
+use Rattle.hub.proofs.Deciding.{Here, there, whole, Passed, Decision, refused, done, decision}
+
+module _ (widths : List ℕ) (h : Hub) where
+  -- its own entry
+  entry-left : (r : Request) → Here widths h r → Passed widths h r → Leaves r (entryOf h (slotOf r)) (entryOf (step widths h r .after) (slotOf r))
+  unfolding opening closing submitting
+  entry-left (Open slot key d) x passed = tt
+  entry-left (Submit slot key number part) x passed = rw (there widths h (Submit slot key number part) x, passed .0, passed .2)
+  entry-left (Close slot key) x passed = rw (there widths h (Close slot key) x, passed .0)
+
+  -- the record bytes
+  bytes-left : (r : Request) → Here widths h r → Passed widths h r → (at : ℕ)
+      → (Writes r (entryOf h (slotOf r)) (entryOf (step widths h r .after) (slotOf r)) at → ⊥) → getD (step widths h r .after .records) at 0 ≡ getD (h .records) at 0
+  unfolding submitting areaTaken
+  bytes-left (Open slot key d) x passed at apart = rw (x .leaves)
+  bytes-left (Submit slot key number part) x passed at apart =
+      let e = entryOf h slot in
+      let (f, taken) = accepted widths (e .descriptor) (e .state) part (areaOf (h .records) slot) (passed .2) in
+      let grows = taken .grows in
+      rw (x .leaves, passed .0, taken .itsArea)
+      (area-outside (h .records) slot (whole widths h slot key number part x) (x .low) (e .state .used) (allBytes (f .items)) (taken .fits) at
+      λ a b. apart (a, rw (there widths h (Submit slot key number part) x, passed .0, passed .2, taken .itsState) (omega arith)))
+  bytes-left (Close slot key) x passed at apart = rw (x .leaves)
+
+  pub refused-stays : (r : Request) → (step widths h r .answer .code ≡ 0 → ⊥) → step widths h r .after ≡ h
+  refused-stays r k = go (decision widths h r)
+    where
+      go : Decision widths h r → step widths h r .after ≡ h
+      go (refused q same) = same
+      go (done zero x passed) = absurd (k zero)
+
+  pub accepted-stays : (r : Request) → step widths h r .answer .code ≡ 0 → OnlyItsOwn r h (step widths h r .after)
+  accepted-stays r zero = go (decision widths h r)
+    where
+      go : Decision widths h r → OnlyItsOwn r h (step widths h r .after)
+      go (refused q same) = absurd (eqb-false _ 0 q zero)
+      go (done _ x passed) = record {
+        entries = λ slot n. other-entry widths h r slot (λ e. n (sym e));
+        itsEntry = entry-left r x passed;
+        bytes = bytes-left r x passed;
+        tableSize = table-size widths h r;
+        recordsSize = records-size widths h r;
+      }
+
+pub untouched : Untouched
+untouched = record { refused = refused-stays; accepted = accepted-stays }

@@ -1,0 +1,18 @@
+-- `hub::submit::taken` meets its contract.
+-- Assumes nothing.
+use borrow.Author.Needs.{needs}
+use borrow.Author.Tests.{eq-eqb, ne-eqb}
+use Rattle.hub.proofs.submit.taken.Statement.{statement}
+use Rattle.hub.proofs.submit.taken.Tie as tie
+
+returns : tie.Need-returns
+returns c = rw (ne-eqb _ _ (c .if1 .taken))
+
+add-next : tie.Need-add-next
+add-next c = search needs
+
+returns-2 : tie.Need-returns-2
+returns-2 c = rw (eq-eqb _ _ (c .before .before .before .if1 .left))
+
+pub taken-spec : {M : Type 1} → statement M
+taken-spec = tie.close (tie.spec returns add-next returns-2)

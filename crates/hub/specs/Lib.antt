@@ -1,0 +1,5 @@
+pub mod Entries
+pub mod Requests
+pub mod Histories
+pub mod Promises
+pub mod Code

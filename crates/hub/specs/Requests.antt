@@ -1,0 +1,184 @@
+-- "Requests and their order": open, submit and close on one entry, each as one step on all that is lent; and the count of open jobs.
+use Prim.Native.Nat.{ℕ, _+_, _*_}
+use mathlib.Core.Bool.{Bool, true, false, not, _&&_}
+use mathlib.Core.List.{List, [], _∷_}
+use lib.ListN.{length, getD, set}
+use lib.Dec.{ltb, leb, eqb}
+use Rattle.part.specs.Numbers.{if_then_else_}
+use Rattle.part.specs.Checks.{Checked, fine, fault, require, _>>_}
+use Rattle.part.specs.Ranges.{_to_, _∈_, hold, descriptorFields}
+use Rattle.part.specs.Reading.{between}
+use Rattle.part.specs.Records.{spliced}
+use Rattle.part.specs.Part.{answer, interpreted, areaAfter}
+use Rattle.part.specs.declared.shapes.Descriptor.{Descriptor}
+use Rattle.part.specs.declared.shapes.Answer.{Answer}
+use Rattle.part.specs.declared.shapes.Interpreted.{Interpreted}
+use Rattle.hub.specs.Entries.{isOpen, isOpenUnder, isOldKey, damaged, opened, goneOn, closed, fresh}
+use Rattle.hub.specs.declared.jobs.Entry.{Entry}
+use Rattle.hub.specs.declared.jobs.Out.{Out}
+
+-- ---- the checks on one entry, in their order; a damaged entry is 12 before all else
+
+-- open under this key: 1; open under another: 13; an old key: 14; descriptor out of range: 15
+unfoldable pub mayOpen : ℕ → Descriptor → Entry → Checked Unit
+mayOpen key d e = do
+  require (not (damaged e)) 12
+  require (not (isOpenUnder e key)) 1
+  require (not (isOpen e)) 13
+  require (not (isOldKey e key)) 14
+  require (hold (descriptorFields d)) 15
+
+-- A part's number: bad (0 or above 65,535), 17; old (below next), 1; a gap (above next), 18; else it is the one to take now.
+unfoldable pub judged : ℕ → ℕ → Checked Unit
+judged next number = do
+  require (number ∈ 1 to 65535) 17
+  require (leb next number) 1
+  require (leb number next) 18
+
+-- closed, or another key: 16; then the number
+unfoldable pub maySubmit : ℕ → ℕ → Entry → Checked Unit
+maySubmit key number e = do
+  require (not (damaged e)) 12
+  require (isOpenUnder e key) 16
+  judged (e .next) number
+
+-- closed with this as last key, key above 0: 1; else, where it isn't open under this key: 16
+unfoldable pub mayClose : ℕ → Entry → Checked Unit
+mayClose key e = do
+  require (not (damaged e)) 12
+  require (not (not (isOpen e) && eqb (e .key) key && ltb 0 key)) 1
+  require (isOpenUnder e key) 16
+
+-- ---- the requests on one entry: the entry afterwards, and the answer
+
+abbrev pub out : Entry → Answer → Out
+out e a = record { entry = e; answer = a }
+
+-- Every code but 0 leaves the entry as it was.
+abbrev pub decided : Entry → Checked Unit → Out → Out
+decided e (fine _) done = done
+decided e (fault code at) done = out e (answer code at 0)
+
+abbrev pub passes : Checked Unit → Bool
+passes (fine _) = true
+passes (fault code at) = false
+
+unfoldable pub opening : ℕ → Descriptor → Entry → Out
+opening key d e = decided e (mayOpen key d e) (out (opened key d) (answer 0 0 0))
+
+unfoldable pub closing : ℕ → Entry → Out
+closing key e = decided e (mayClose key e) (out (closed e) (answer 0 0 0))
+
+-- the part's own answer; if all its elements pass, next grows by one
+abbrev pub partTaken : Entry → Interpreted → Out
+partTaken e r = out (if eqb (r .answer .code) 0 then goneOn e (r .state) else e) (r .answer)
+
+-- a submit, whose slot owns this area
+module _ (widths : List ℕ) (key number : ℕ) (part area : List ℕ) where
+  unfoldable pub submitting : Entry → Out
+  submitting e = decided e (maySubmit key number e) (partTaken e (interpreted widths (e .descriptor) (e .state) part area))
+
+  -- and what it makes of the area
+  unfoldable pub areaTaken : Entry → List ℕ
+  areaTaken e = if passes (maySubmit key number e) then areaAfter widths (e .descriptor) (e .state) part area else area
+
+-- ---- what is lent, and one place of it changed
+
+-- Slot s owns the 4,096 bytes from 4,096 s.
+abbrev pub areaOf : List ℕ → ℕ → List ℕ
+areaOf records slot = between records (4096 * slot) (4096 * slot + 4096)
+
+abbrev pub withArea : List ℕ → ℕ → List ℕ → List ℕ
+withArea records slot area = spliced records (4096 * slot) area
+
+-- what a submit makes of the record buffer
+abbrev pub storing : List ℕ → List ℕ → ℕ → ℕ → ℕ → List ℕ → Entry → List ℕ
+storing widths records slot key number part e = withArea records slot (areaTaken widths key number part (areaOf records slot) e)
+
+-- the table of exactly 16 entries; and with it the record buffer of 65,536 bytes and the 1,024 widths
+abbrev pub isTable : List Entry → Bool
+isTable table = eqb (length table) 16
+
+abbrev pub isStore : List Entry → List ℕ → List ℕ → Bool
+isStore table records widths = (isTable table && eqb (length records) 65536) && eqb (length widths) 1024
+
+-- what is made of the entry at a slot; or what there is for a slot above 15, and where a lent length is wrong
+abbrev pub atSlot : {A : Type 0} → Bool → (Entry → A) → A → A → List Entry → ℕ → A
+atSlot lent f above wrong table slot = if lent then (if ltb slot 16 then f (getD table slot fresh) else above) else wrong
+
+abbrev pub refusal : ℕ → Answer
+refusal code = answer code 0 0
+
+-- 10: lent length wrong; 11: slot above 15; then the request's own answer
+abbrev pub answerOf : Bool → (Entry → Out) → List Entry → ℕ → Answer
+answerOf lent f table slot = atSlot lent (λ e. f e .answer) (refusal 11) (refusal 10) table slot
+
+-- the table with the slot's entry as the request leaves it
+abbrev pub tableOf : Bool → (Entry → Out) → List Entry → ℕ → List Entry
+tableOf lent f table slot = atSlot lent (λ e. set table slot (f e .entry)) table table table slot
+
+-- and what else is lent
+abbrev pub elseOf : {A : Type 0} → Bool → (Entry → A) → A → List Entry → ℕ → A
+elseOf lent f other table slot = atSlot lent f other other table slot
+
+-- ---- one step on all that is lent
+
+pub record Hub : Type 0 where
+  pub table : List Entry
+  pub records : List ℕ
+
+abbrev pub hub : List Entry → List ℕ → Hub
+hub table records = record { table = table; records = records }
+
+pub data Request : Type 0 where
+  Open : (slot key : ℕ) (d : Descriptor) → Request
+  Submit : (slot key number : ℕ) (part : List ℕ) → Request
+  Close : (slot key : ℕ) → Request
+
+abbrev pub slotOf : Request → ℕ
+slotOf (Open slot key d) = slot
+slotOf (Submit slot key number part) = slot
+slotOf (Close slot key) = slot
+
+-- the answer, and what was lent as it is then
+pub record Reply : Type 0 where
+  pub answer : Answer
+  pub after : Hub
+
+module _ (widths : List ℕ) where
+  -- Open and close are lent the table only.
+  abbrev pub isLent : Hub → Request → Bool
+  isLent h (Open slot key d) = isTable (h .table)
+  isLent h (Submit slot key number part) = isStore (h .table) (h .records) widths
+  isLent h (Close slot key) = isTable (h .table)
+
+  abbrev pub onEntry : Hub → Request → Entry → Out
+  onEntry h (Open slot key d) = opening key d
+  onEntry h (Submit slot key number part) = submitting widths key number part (areaOf (h .records) slot)
+  onEntry h (Close slot key) = closing key
+
+  abbrev pub onRecords : Hub → Request → Entry → List ℕ
+  onRecords h (Open slot key d) e = h .records
+  onRecords h (Submit slot key number part) e = storing widths (h .records) slot key number part e
+  onRecords h (Close slot key) e = h .records
+
+  unfoldable pub step : Hub → Request → Reply
+  step h r = record {
+    answer = answerOf (isLent h r) (onEntry h r) (h .table) (slotOf r);
+    after = hub (tableOf (isLent h r) (onEntry h r) (h .table) (slotOf r)) (elseOf (isLent h r) (onRecords h r) (h .records) (h .table) (slotOf r));
+  }
+
+  -- what is left after some requests, one after the other
+  unfoldable pub steps : Hub → List Request → Hub
+  steps h [] = h
+  steps h (r ∷ rs) = steps (step h r .after) rs
+
+-- ---- the count
+
+-- A count of open jobs walks the table, damaged entries included; a table of another length counts 0.
+abbrev pub openJobs : List Entry → ℕ
+openJobs [] = 0
+openJobs (e ∷ es) = (if isOpen e then 1 else 0) + openJobs es
+
+unfoldable pub countOpen : List Entry → ℕ
+countOpen table = if isTable table then openJobs table else 0

@@ -1,0 +1,106 @@
+// The requests over a lent table of entries: each tests what is lent, then the slot, and changes one entry.
+ghost use mathlib.Core.Path.{_≡_};
+ghost use Rattle.hub.specs.Requests.{opening, closing, submitting, storing, areaOf, isTable, isStore, answerOf, tableOf, elseOf, countOpen};
+use super::entries::close_entry;
+use super::entries::open_entry;
+use super::entries::tally;
+use super::jobs::Entry;
+use super::submit::submit_slot;
+use part::shapes::Answer;
+use part::shapes::Descriptor;
+
+// A lent length is wrong.
+const WRONG_LENGTH: Answer = Answer {
+    code: 10,
+    first: 0,
+    second: 0,
+};
+
+// The slot is above 15.
+const NO_SLOT: Answer = Answer {
+    code: 11,
+    first: 0,
+    second: 0,
+};
+
+// Opens a job under a key, with a descriptor.
+#[no_mangle]
+pub extern "C" fn halviruso_open(table: &mut [Entry], slot: u32, key: u32, d: Descriptor) -> Answer
+    ensures { λ r. ⌜ (r ≡ answerOf (isTable (now (table .entry))) (opening key d) (now (table .entry)) slot) × (now (table .exit) ≡ tableOf (isTable (now (table .entry))) (opening key d) (now (table .entry)) slot) ⌝ }
+{
+    if table.len() != 16 {
+        return WRONG_LENGTH;
+    }
+    if slot > 15 {
+        return NO_SLOT;
+    }
+    let at = slot as usize;
+    let o = open_entry(table[at], key, d);
+    table[at] = o.entry;
+    o.answer
+}
+
+// Submits a part; the records it makes go to the slot's own 4,096 bytes.
+#[no_mangle]
+pub extern "C" fn halviruso_submit(
+    table: &mut [Entry],
+    records: &mut [u8],
+    widths: &[u16],
+    slot: u32,
+    key: u32,
+    number: u32,
+    part: &[u8],
+) -> Answer
+    ensures { λ r. ⌜ (r ≡ answerOf (isStore (now (table .entry)) (now (records .entry)) (now (widths .entry))) (submitting (now (widths .entry)) key number (now (part .entry)) (areaOf (now (records .entry)) slot)) (now (table .entry)) slot) × ((now (table .exit) ≡ tableOf (isStore (now (table .entry)) (now (records .entry)) (now (widths .entry))) (submitting (now (widths .entry)) key number (now (part .entry)) (areaOf (now (records .entry)) slot)) (now (table .entry)) slot) × (now (records .exit) ≡ elseOf (isStore (now (table .entry)) (now (records .entry)) (now (widths .entry))) (storing (now (widths .entry)) (now (records .entry)) slot key number (now (part .entry))) (now (records .entry)) (now (table .entry)) slot)) ⌝ }
+{
+    if table.len() != 16 {
+        return WRONG_LENGTH;
+    }
+    if records.len() != 65536 {
+        return WRONG_LENGTH;
+    }
+    if widths.len() != 1024 {
+        return WRONG_LENGTH;
+    }
+    if slot > 15 {
+        return NO_SLOT;
+    }
+    let at = slot as usize;
+    let o = submit_slot(table[at], records, widths, slot, key, number, part);
+    table[at] = o.entry;
+    o.answer
+}
+
+// Closes the job of this key.
+#[no_mangle]
+pub extern "C" fn halviruso_close(table: &mut [Entry], slot: u32, key: u32) -> Answer
+    ensures { λ r. ⌜ (r ≡ answerOf (isTable (now (table .entry))) (closing key) (now (table .entry)) slot) × (now (table .exit) ≡ tableOf (isTable (now (table .entry))) (closing key) (now (table .entry)) slot) ⌝ }
+{
+    if table.len() != 16 {
+        return WRONG_LENGTH;
+    }
+    if slot > 15 {
+        return NO_SLOT;
+    }
+    let at = slot as usize;
+    let o = close_entry(table[at], key);
+    table[at] = o.entry;
+    o.answer
+}
+
+// Counts the open jobs, damaged ones too; 0 for a table of another length.
+#[no_mangle]
+pub extern "C" fn halviruso_count(table: &[Entry]) -> u32
+    ensures { λ r. ⌜ r ≡ countOpen (now (table .entry)) ⌝ }
+{
+    if table.len() != 16 {
+        return 0;
+    }
+    let mut n: u32 = 0;
+    let mut i: usize = 0;
+    while i < table.len() {
+        n = tally(table[i], n);
+        i = i + 1;
+    }
+    n
+}
