@@ -101,7 +101,8 @@ pub fn submit_slot(
     part: &[u8],
 ) -> Out
     requires { ⌜ (slot < 16) × ((length (records .now) ≡ 65536) × (length (widths .now) ≡ 1024)) ⌝ }
-    ensures { λ r. ⌜ (r ≡ submitting (now (widths .entry)) key number (now (part .entry)) (areaOf (now (records .entry)) slot) e) × (now (records .exit) ≡ storing (now (widths .entry)) (now (records .entry)) slot key number (now (part .entry)) e) ⌝ }
+    ensures { λ r. ⌜ (r ≡ submitting (now (widths .entry)) key number (now (part .entry)) (areaOf (now (records .entry)) slot) e)
+        × (now (records .exit) ≡ storing (now (widths .entry)) (now (records .entry)) slot key number (now (part .entry)) e) ⌝ }
 {
     let from = 4096 * slot as usize;
     let to = from + 4096;

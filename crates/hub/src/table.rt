@@ -26,7 +26,8 @@ const NO_SLOT: Answer = Answer {
 // Opens a job under a key, with a descriptor.
 #[no_mangle]
 pub extern "C" fn halviruso_open(table: &mut [Entry], slot: u32, key: u32, d: Descriptor) -> Answer
-    ensures { λ r. ⌜ (r ≡ answerOf (isTable (now (table .entry))) (opening key d) (now (table .entry)) slot) × (now (table .exit) ≡ tableOf (isTable (now (table .entry))) (opening key d) (now (table .entry)) slot) ⌝ }
+    ensures { λ r. ⌜ (r ≡ answerOf (isTable (now (table .entry))) (opening key d) (now (table .entry)) slot)
+        × (now (table .exit) ≡ tableOf (isTable (now (table .entry))) (opening key d) (now (table .entry)) slot) ⌝ }
 {
     if table.len() != 16 {
         return WRONG_LENGTH;
@@ -51,7 +52,9 @@ pub extern "C" fn halviruso_submit(
     number: u32,
     part: &[u8],
 ) -> Answer
-    ensures { λ r. ⌜ (r ≡ answerOf (isStore (now (table .entry)) (now (records .entry)) (now (widths .entry))) (submitting (now (widths .entry)) key number (now (part .entry)) (areaOf (now (records .entry)) slot)) (now (table .entry)) slot) × ((now (table .exit) ≡ tableOf (isStore (now (table .entry)) (now (records .entry)) (now (widths .entry))) (submitting (now (widths .entry)) key number (now (part .entry)) (areaOf (now (records .entry)) slot)) (now (table .entry)) slot) × (now (records .exit) ≡ elseOf (isStore (now (table .entry)) (now (records .entry)) (now (widths .entry))) (storing (now (widths .entry)) (now (records .entry)) slot key number (now (part .entry))) (now (records .entry)) (now (table .entry)) slot)) ⌝ }
+    ensures { λ r. ⌜ (r ≡ answerOf (isStore (now (table .entry)) (now (records .entry)) (now (widths .entry))) (submitting (now (widths .entry)) key number (now (part .entry)) (areaOf (now (records .entry)) slot)) (now (table .entry)) slot)
+        × ((now (table .exit) ≡ tableOf (isStore (now (table .entry)) (now (records .entry)) (now (widths .entry))) (submitting (now (widths .entry)) key number (now (part .entry)) (areaOf (now (records .entry)) slot)) (now (table .entry)) slot)
+        × (now (records .exit) ≡ elseOf (isStore (now (table .entry)) (now (records .entry)) (now (widths .entry))) (storing (now (widths .entry)) (now (records .entry)) slot key number (now (part .entry))) (now (records .entry)) (now (table .entry)) slot)) ⌝ }
 {
     if table.len() != 16 {
         return WRONG_LENGTH;
@@ -74,7 +77,8 @@ pub extern "C" fn halviruso_submit(
 // Closes the job of this key.
 #[no_mangle]
 pub extern "C" fn halviruso_close(table: &mut [Entry], slot: u32, key: u32) -> Answer
-    ensures { λ r. ⌜ (r ≡ answerOf (isTable (now (table .entry))) (closing key) (now (table .entry)) slot) × (now (table .exit) ≡ tableOf (isTable (now (table .entry))) (closing key) (now (table .entry)) slot) ⌝ }
+    ensures { λ r. ⌜ (r ≡ answerOf (isTable (now (table .entry))) (closing key) (now (table .entry)) slot)
+        × (now (table .exit) ≡ tableOf (isTable (now (table .entry))) (closing key) (now (table .entry)) slot) ⌝ }
 {
     if table.len() != 16 {
         return WRONG_LENGTH;
