@@ -18,10 +18,10 @@ LAWS          a module of crates/hub/proofs with the two ways out, after the par
                   all-counted : (es : List Entry) → T (isTable es) → talliedAll F 0 es ≡ SPEC es
 """
 import copy, re, sys
+from walk import Ctx, W, l, path, prod, spec as theorem, tup, write
 if len(sys.argv) != 7: sys.exit(__doc__)
 fn, step, params, f, spec, laws = sys.argv[1:]
 module, step = step.split('::')
-W = {'u8': 'w8', 'u16': 'w16', 'u32': 'w32', 'u64': 'w64', 'usize': 'w64'}
 ps = [tuple(x.strip() for x in p.split(':', 1)) for p in params.split(',')]
 T = re.fullmatch(r'&\[(\w+)\]', ps[0][1]).group(1)
 names = [n for n, _ in ps[1:]]
@@ -33,26 +33,9 @@ def ren(t): return re.sub(r"(?<![\w.·-])(%s)\b" % '|'.join(names), r'x-\1', t) 
 f, spec = ren(f), ren(spec)
 p1 = lambda t: '(%s)' % t if ' ' in t else t
 bits = lambda t: {'usize': '64'}.get(t, t[1:])
-def path(j): return '.1 ' * j + '.0'
-def tup(xs, end='tt'): return ''.join('(%s, ' % x for x in xs) + end + ')' * len(xs)
-def prod(xs, end='Unit {0}'): return ''.join('%s × (' % x for x in xs) + end + ')' * len(xs)
 np = len(ps) + 1
 kc, ki, kn, kb, kl, kt, kp, ke = range(np, np + 8)   # the number, the index, a usize and a bool of the test, a usize, a bool, a pointer and the record of a turn
 N = np + 8
-L = lambda i: '_%d' % i
-l = lambda i: 'l' + ''.join('₀₁₂₃₄₅₆₇₈₉'[int(c)] for c in str(i))
-class Ctx:
-    def __init__(s, tail): s.c = [x for i in reversed(range(N)) for x in (L(i), 'd%d' % i)] + tail
-    def at(s, n): return s.c.index(n if isinstance(n, str) else L(n))
-    def move(s, *ns):
-        ns = [x if isinstance(x, str) else L(x) for x in ns]
-        r = 'move ! (' + ' ∷ '.join(str(s.c.index(x)) for x in ns) + ' ∷ []) $'
-        s.c = ns + [x for x in s.c if x not in ns]
-        return r
-    def frees(s, rooms):
-        m = s.move(*[x for i in range(N) for x in (L(i), 'd%d' % i)])
-        s.c = s.c[2 * N:]
-        return [m, ' $ '.join('free1 !' if i in rooms else 'free-at !' for i in range(N)) + ' $ free0 ! $ keep ! (0 ∷ []) $']
 P, S = 'Rattle.hub.proofs', 'Rattle.hub.specs'
 out = []
 w = out.append
@@ -134,19 +117,23 @@ w('''  abbrev s : Val
       by ! (with-record 𝓤 H A W e is (emp 𝓤) (owns (u32 ∷ %s[]) (n, %s) (vint w32 n ∷ [], %s)))
 ''' % (T, prod(['ℕ'] * len(rest)), av, prod(['List Val'] * len(rest)), vv, T, f, bound, spec, bound, tup(['tt'] * len(rest)), len(ps), len(ps), T, av, vv, T,
        ''.join('owned ! %s (Is %s) (uint-makes 𝓤 H A W %s) %s _ (refl, %s-fits) $ fjoin ! $ ' % (t, t, W[t], n, n) for n, t in reversed(rest)), ''.join(t + ' ∷ ' for _, t in rest), av, vv))
-X = Ctx(['lft', 'shr'])
+X = Ctx(N, ['lft', 'shr'])
 w('  module _ (𝓣 : Tables 𝓤 H) (known : Triple 𝓤 (𝓣 .C #callee) (Callee 𝓤 H A mem run)) where')
 w('    walk : ent 𝓤 (onEntry 𝓤 H A self.signature (κ, tt) (q, tt) a vals) (WpFn 𝓤 H (𝓣 .C) (𝓣 .Λ) code.function (s ∷ %s[]) End)' % ''.join('vint %s %s ∷ ' % (W[t], n) for n, t in rest))
 w('    walk =')
 begin = len(out)
 def line(x): w('        ' + x)
+def free(ctx, rooms):
+    moved, freed = ctx.frees(set(rooms))
+    line(moved)
+    line(freed + ' keep ! (0 ∷ []) $')
 line('qed W ((‵ (flft κ q) ⊛ ‵ ftrue) ∷ ‵ (owns (ShrSlice (named 0) κ E.the-row ∷ %s[]) a vals) ∷ []) ∵' % ''.join(t + ' ∷ ' for _, t in rest))
 line('split ! $ move ! (2 ∷ []) $ fsplit ! $ fsplit ! $ drop ! $ fsplit ! $ keep ! (3 ∷ 1 ∷ []) $ enter ! (𝓣 .C) (𝓣 .Λ) code.function _ _ $')
 line(' '.join('alloc1 ! (λ %s.' % l(i) for i in range(N)) + ' alloc0 ! $ params1 ! $')
 line(' $ '.join(['pass1 ! (init ! %d refl (tt, (tt, (record { fits = room .0 }, tt))))' % X.at(1)] + ['pass1 ! (init ! %d refl (tt, record { fits = %s-fits }))' % (X.at(j + 2), n) for j, (n, _) in enumerate(rest)]) + ' $ pass0 ! $')
 line(X.move(kn, kb, 0))
 line('tests-length 𝓤 H A W (𝓣 .C) (𝓣 .Λ) _ %d %d %s %s %s refl refl refl End _ 1 (length ys) (room .0) (load ! (from ! (fld ! refl (stop !))) (look-in ! %d (sub ! 1 refl (whole !)))) _ (λ z.' % (kn, kb, l(0), l(kn), l(kb), X.at(1)))
-for x in copy.deepcopy(X).frees(set(range(np, N))): line(x)
+free(copy.deepcopy(X), range(np, N))
 line('by ! (exits 0 (%s ys z) (lit< tt))) (λ sized.' % ' '.join(['none-counted'] + [n for n, _ in rest]))
 zero = 'assigns ! (of-opd ! (lit ! tt)) (from ! (stop !)) (init ! %d refl (tt, record { fits = lit< tt })) $'
 line(zero % X.at(kc) + ' ' + zero % X.at(ki))
@@ -155,31 +142,9 @@ line('scans 𝓤 H A W κ q b o ys room f 0 (named 0) %s 𝓣 _ %s refl refl ref
 ops = [9, 4] + [X.at(j + 2) + 1 for j in range(len(rest))]
 line('(λ e n i v₁ v₂ v₃ v₄ v₅ v₆ v₇. ' + ''.join('and-then ! (load ! (from ! (stop !)) (look ! %d refl)) (' % i for i in ops) + 'no-more !' + ')' * len(ops) + ') (λ i all.')
 line('assigns ! (of-opd ! (load ! (from ! (stop !)) (look ! 3 refl))) (from ! (stop !)) (init ! %d refl (tt, record { fits = i .1 .1 })) $ returns ! (look ! %d refl) $' % (X.at(0), X.at(0)))
-for x in X.frees(set(range(kn, N))): line(x)
+free(X, range(kn, N))
 line('by ! (exits (upto f 0 (i .0) ys) (ap (λ (m : ℕ). upto f 0 m ys) all ∙ upto-all f 0 ys ∙ %s ys sized) (i .1 .1))) (0, (zero-le, lit< tt))' % ' '.join(['all-counted'] + [n for n, _ in rest]))
 out[-1] += ')' * sum(x.count('(') - x.count(')') for x in out[begin:])
-w('''
-pub {f}-spec : {{M : Type 1}} → stated.statement M
-unfolding code.routine tablesOf
-{f}-spec 𝓤 H 𝓜 𝓖 𝓡 =
-    let A = 𝓖 .A in
-    let W = givenOf 𝓤 H 𝓜 𝓖 in
-    let 𝓣 = tablesOf 𝓤 H 𝓜 (tables 𝓤 H 𝓜 𝓡 code.env) in
-    entered 𝓤 H (tripleOf 𝓤 H A self.signature (self.spec 𝓤 H A (𝓜 .mem) (𝓡 .run))) (𝓣 .C) (𝓣 .Λ) #self code.function (code.unfolded 𝓤 H 𝓜 𝓡)
-    (meets 𝓤 H A W self.ended (self.clauses 𝓤 H A (𝓜 .mem) (𝓡 .run)) (WpFn 𝓤 H (𝓣 .C) (𝓣 .Λ) code.function) (WpFn-mono 𝓤 H (W .laws) 𝓣 code.function)
-    (λ κs. {sp}) (λ κs. {tl})
-    (λ κs qs bounds a g are. via 𝓤 _ (fst∗ 𝓤 _ (emp 𝓤)) (walk 𝓤 H A W (𝓜 .mem) (𝓡 .run) (κs .0) (qs .0) (a .0 .ptr .0) (a .0 .ptr .1) (a .0 .name) (a .0 .now){args} (are .0 .0 .1){ares} 𝓣
-    (cited 𝓤 H (Callee 𝓤 H A (𝓜 .mem) (𝓡 .run)) 𝓜 𝓡 code.env #callee callee-def.routine code.calls-hub·{m}·{c} (callee-thm.met 𝓤 H 𝓜 𝓖 𝓡)))))'''.format(
-    f=fn.replace('_', '-'), c=step.replace('_', '-'), m=module.replace('_', '-'), sp=tup(['slice-vals'] + ['uint-vals ' + W[t] for _, t in rest]), tl=tup(['shr-slice-tells (named 0) (κs .0) E.the-row'] + ['uint-tells ' + W[t] for _, t in rest]),
-    args=''.join(' (a %s)' % path(j + 1) for j in range(len(rest))), ares=''.join(' (are %s .1)' % path(j + 1) for j in range(len(rest)))))
-body = '\n'.join(x for x in '\n'.join(out).split('\n') if not x.startswith(('use ', '--')))
-def uses(n):
-    n = n.split(' as ')[-1]
-    n = n[1:-1] if n.startswith('_') and n.endswith('_') else n
-    return re.search(r"(?<![\w·′₀-₉-])" + re.escape(n) + r"(?![\w′₀-₉-])", body)
-for x in '\n'.join(out).split('\n'):
-    m = re.match(r'use (\S+)\.\{(.*)\}$', x)
-    if m:
-        ns = [n for n in m.group(2).split(', ') if uses(n)]
-        if ns: print('use %s.{%s}' % (m.group(1), ', '.join(ns)))
-    else: print(x)
+w(theorem(fn, module, step, ['slice-vals'] + ['uint-vals ' + W[t] for _, t in rest], ['shr-slice-tells (named 0) (κs .0) E.the-row'] + ['uint-tells ' + W[t] for _, t in rest],
+    '(κs .0) (qs .0) (a .0 .ptr .0) (a .0 .ptr .1) (a .0 .name) (a .0 .now)%s (are .0 .0 .1)%s 𝓣' % (''.join(' (a %s)' % path(j + 1) for j in range(len(rest))), ''.join(' (are %s .1)' % path(j + 1) for j in range(len(rest))))))
+write(out)

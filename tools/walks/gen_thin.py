@@ -15,6 +15,7 @@ NAME=G          for each `&mut` beside the table: what the request makes of it, 
 --requires      the callee has `requires { ⌜ slot < 16 ⌝ }`, and with --sizes `requires { ⌜ (slot < 16) × ((length (records .now) ≡ 65536) × (length (widths .now) ≡ 1024)) ⌝ }`
 """
 import copy, re, sys
+from walk import Ctx, W, l, path, prod, spec, tup, write
 if len(sys.argv) < 2: sys.exit(__doc__)
 fn, args, needs, sizes = sys.argv[1], sys.argv[2:], False, []
 while args and args[0].startswith('--'):
@@ -35,7 +36,6 @@ class P:
         s.mut = ref == '&mut '
         s.kind = ('slice' if s.slice else 'one') if ref else 'bool' if ty == 'bool' else 'int' if ty in W else 'struct'
         assert s.kind != 'one' or s.mut, ty + ': not done'
-W = {'u8': 'w8', 'u16': 'w16', 'u32': 'w32', 'u64': 'w64', 'usize': 'w64'}
 ps = [P(*[x.strip() for x in p.split(':', 1)]) for p in params.split(',')]
 table, rest = ps[0], ps[1:]
 by = {p.name: p for p in ps}
@@ -57,7 +57,6 @@ for j, p in enumerate(refs): p.lft = j + 1
 structs = sorted({p.el for p in rest if p.kind == 'struct'})
 ints = sorted({p.el for p in rest if p.kind in ('int', 'one') or p.kind == 'slice'})
 
-def path(j): return '.1 ' * j + '.0'
 def denot(p): return {'int': 'ℕ', 'bool': 'Bool', 'struct': p.el, 'one': 'RefT ℕ', 'slice': 'RefT (List ℕ)'}[p.kind]
 def val(p): return {'int': 'vint %s %s' % (W.get(p.el), p.v), 'bool': 'vbool ' + p.v, 'struct': 'LL.val %s.the-type %s′.the-laws %s' % (p.el, p.el, p.v), 'one': 'vptr (%s .ptr .0) (%s .ptr .1)' % (p.v, p.v), 'slice': 'sliceVal (%s .ptr) (length (%s .now))' % (p.v, p.v)}[p.kind]
 def vals(p): return {'one': 'ptr-vals ' + p.v, 'slice': 'slice-vals ' + p.v}.get(p.kind, val(p) + ' ∷ []')
@@ -84,27 +83,6 @@ for p in muts:
     p.tmp = list(range(n, n + (2 if p.slice else 1)))
     n += len(p.tmp)
 kq, N = n, n + 1
-sub = lambda n: ''.join('₀₁₂₃₄₅₆₇₈₉'[int(c)] for c in str(n))
-l = lambda i: 'l' + sub(i)
-L = lambda i: '_%d' % i
-
-class Ctx: # the walk's context, by names: '_3' a local's cell or room, 'd3' that it dies
-    def __init__(s, tail): s.c = [x for i in reversed(range(N)) for x in (L(i), 'd%d' % i)] + tail
-    def at(s, n): return s.c.index(n if isinstance(n, str) else L(n))
-    def move(s, *ns):
-        ns = [x if isinstance(x, str) else L(x) for x in ns]
-        r = 'move ! (' + ' ∷ '.join(str(s.c.index(x)) for x in ns) + ' ∷ []) $'
-        s.c = ns + [x for x in s.c if x not in ns]
-        return r
-    def swap(s, olds, news): s.c = news + [x for x in s.c if x not in olds]
-    def frees(s, rooms):
-        m = s.move(*[x for i in range(N) for x in (L(i), 'd%d' % i)])
-        s.c = s.c[2 * N:]
-        return [m, ' $ '.join('free1 !' if i in rooms else 'free-at !' for i in range(N)) + ' $ free0 ! $']
-    def look(s, n): return 'load ! (from ! (stop !)) (look ! %d refl)' % s.at(n)
-
-def tup(xs, end='tt'): return ''.join('(%s, ' % x for x in xs) + end + ')' * len(xs)
-def prod(xs, end='Unit {0}'): return ''.join('%s × (' % x for x in xs) + end + ')' * len(xs)
 def nest(xs, op): return (op + '(').join(xs) + ')' * (len(xs) - 1)
 
 T = table.el
@@ -250,7 +228,7 @@ w('''  -- on a refusal what would be passed on is as it was
 
 # ---- the walk
 tail = ['obs', 'bor', 'lft']
-X = Ctx(tail + ['tk', 'Rest'])
+X = Ctx(N, tail + ['tk', 'Rest'])
 w('  module _ (C : Calls 𝓤 H) (Λ : Loops 𝓤 H) (fm : FmC 𝓤 H (W .laws) C) (known : Triple 𝓤 (C #callee) (Callee 𝓤 H A mem run)) where')
 w('    walk : ent 𝓤 (onEntry 𝓤 H A self.signature (κ, κs) (q, qs) a vals) (WpFn 𝓤 H C Λ code.function (s ∷ %s[]) End)' % ''.join(val(p) + ' ∷ ' for p in rest))
 w('    walk =')
@@ -305,30 +283,7 @@ yes = ['ap (λ (d′ : Out). d′ .answer) (%s) ∙ reached ok x-slot ys (λ e�
 yes += ['%s ∙ reached ok x-slot ys g-%s (%s .now) (%s .now) both' % (said[j + 1], p.name, p.v, p.v) for j, p in enumerate(muts)]
 line('keep ! (%s) $ by ! (exits (d .answer) (set ys x-slot (d .entry)) (us .1) (%s) is-answer (length-set ys x-slot (d .entry))' % (' ∷ '.join(str(X.at(x)) for x in ('obs', 'lft', 'tk', 'last')) + ' ∷ []', nest(yes, ', ')))
 out[-1] += ')' * sum(x.count('(') - x.count(')') for x in out[begin:])
-w('''
-pub {f}-spec : {{M : Type 1}} → stated.statement M
-unfolding code.routine tablesOf
-{f}-spec 𝓤 H 𝓜 𝓖 𝓡 =
-    let A = 𝓖 .A in
-    let W = givenOf 𝓤 H 𝓜 𝓖 in
-    let 𝓣 = tablesOf 𝓤 H 𝓜 (tables 𝓤 H 𝓜 𝓡 code.env) in
-    entered 𝓤 H (tripleOf 𝓤 H A self.signature (self.spec 𝓤 H A (𝓜 .mem) (𝓡 .run))) (𝓣 .C) (𝓣 .Λ) #self code.function (code.unfolded 𝓤 H 𝓜 𝓡)
-    (meets 𝓤 H A W self.ended (self.clauses 𝓤 H A (𝓜 .mem) (𝓡 .run)) (WpFn 𝓤 H (𝓣 .C) (𝓣 .Λ) code.function) (WpFn-mono 𝓤 H (W .laws) 𝓣 code.function)
-    (λ κs. {sp}) (λ κs. {tl})
-    (λ κs qs bounds a g are. via 𝓤 _ (fst∗ 𝓤 _ (emp 𝓤)) (walk 𝓤 H A W (𝓜 .mem) (𝓡 .run) (κs .0) (κs .1) (qs .0) (qs .1) (a .0 .ptr .0) (a .0 .ptr .1) (a .0 .name) (a .0 .now) {args}
-    (are .0 .0 .1) {ares} (𝓣 .C) (𝓣 .Λ) (fmOf 𝓤 H (W .laws) 𝓣)
-    (cited 𝓤 H (Callee 𝓤 H A (𝓜 .mem) (𝓡 .run)) 𝓜 𝓡 code.env #callee callee-def.routine code.calls-hub·{m}·{c} (callee-thm.met 𝓤 H 𝓜 𝓖 𝓡)))))'''.format(
-    f=fn.replace('_', '-'), c=callee.replace('_', '-'), m=module.replace('_', '-'), sp=tup(['slice-vals'] + [spells(p) for p in rest]), tl=tup(['mut-slice-tells (named 0) (κs .0) E.the-row'] + [tells(p) for p in rest]),
-    args=' '.join('(a %s)' % path(j + 1) for j in range(len(rest))), ares=' '.join(x for x in (known(j + 1, p) for j, p in enumerate(rest)) if x)))
-# the names that are brought in and not used are left out
-body = '\n'.join(x for x in '\n'.join(out).split('\n') if not x.startswith(('use ', '--')))
-def uses(n):
-    n = n.split(' as ')[-1]
-    n = n[1:-1] if n.startswith('_') and n.endswith('_') else n
-    return re.search(r"(?<![\w·′₀-₉-])" + re.escape(n) + r"(?![\w′₀-₉-])", body)
-for x in '\n'.join(out).split('\n'):
-    m = re.match(r'use (\S+)\.\{(.*)\}$', x)
-    if m:
-        names = [n for n in m.group(2).split(', ') if uses(n)]
-        if names: print('use %s.{%s}' % (m.group(1), ', '.join(names)))
-    else: print(x)
+w(spec(fn, module, callee, ['slice-vals'] + [spells(p) for p in rest], ['mut-slice-tells (named 0) (κs .0) E.the-row'] + [tells(p) for p in rest],
+    '(κs .0) (κs .1) (qs .0) (qs .1) (a .0 .ptr .0) (a .0 .ptr .1) (a .0 .name) (a .0 .now) %s\n    (are .0 .0 .1) %s (𝓣 .C) (𝓣 .Λ) (fmOf 𝓤 H (W .laws) 𝓣)' % (
+    ' '.join('(a %s)' % path(j + 1) for j in range(len(rest))), ' '.join(x for x in (known(j + 1, p) for j, p in enumerate(rest)) if x))))
+write(out)
