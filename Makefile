@@ -1,15 +1,60 @@
-# `make run` shows the interpreter at work; `make test` is the gate.
-.PHONY: run test check clean
+# `make run` lists a real part and draws its page; `make test` is the gate. `make help` names the rest.
+.PHONY: run test check lib listing page elements lines sheets help clean
+
+# text and rules on one sheet, by a composer outside this project
+SHOWN = tests/real/c-table-p01o01x01.part
+PART ?= $(SHOWN)
 
 run:
-	rt check sheets
-	@cat target/log/sheets.stdout
+	@$(MAKE) -s page PART=$(SHOWN)
+	@head -n 9 build/page.listing && echo '..' && tail -n 1 build/page.listing
 
 test:
 	bash .ci/run
 
 check:
 	rt check
+
+# document 01's "Sheets to try", each row through the interpreter
+sheets:
+	rt check sheets
+	@cat target/log/sheets.stdout
+
+# build/libhalviruso.a: the proved library for C, C++ and Rust hosts
+CODE = $(shell find crates/part crates/hub crates/host -name '*.rt' -o -name '*.antt')
+lib: build/libhalviruso.a
+build/libhalviruso.a: $(CODE) crates.txt tools/archive tools/x86_64.sh
+	tools/archive
+
+# target/bin/listing: the listing program
+listing:
+	rt check listing | tail -n 1
+
+# build/page.svg: the sheet as the listing of a part has it; a refusal is marked on the part's bytes
+page: listing
+	@mkdir -p build
+	@. tools/x86_64.sh && $$LOAD target/bin/listing < "$(PART)" > build/page.listing
+	@python3 tools/page build/page.listing --part "$(PART)" --output build/page.svg
+	@echo "build/page.svg shows $(PART)"
+
+# a part as its elements, by what the library answers for each
+elements: lib
+	@tools/elements/build
+	@. tools/x86_64.sh && python3 tools/elements --run "$$RUN" "$(PART)"
+
+# the counts in docs/READING.md, after files have changed
+lines:
+	tools/lines docs/READING.md
+
+help:
+	@echo 'make run                lists a real part and draws its page, build/page.svg'
+	@echo 'make test               the gate: every proof, every wrong program refused, every test'
+	@echo 'make check              every proof once'
+	@echo 'make sheets             the table of "Sheets to try", by the compiled interpreter'
+	@echo 'make lib                build/libhalviruso.a, for hosts in C, C++ and Rust'
+	@echo 'make listing            target/bin/listing'
+	@echo 'make page PART=file     build/page.svg, the sheet of a part'
+	@echo 'make elements PART=file the elements of a part'
 
 clean:
 	rm -rf target build

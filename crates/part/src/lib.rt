@@ -10,6 +10,7 @@ pub mod rules;
 pub mod run;
 pub mod settings;
 pub mod shapes;
+pub mod sheet;
 pub mod show;
 pub mod text;
 pub mod types;

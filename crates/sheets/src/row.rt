@@ -1,6 +1,4 @@
 // A row: a fresh job, its parts interpreted, and its line printed.
-ghost use mathlib.Core.Path.{_≡_};
-ghost use Rattle.part.specs.Sheets.{descriptor as theDescriptor, fresh as freshState};
 use super::hex::decode;
 use super::hex::show_bytes;
 use super::show::Beside;
@@ -9,54 +7,10 @@ use super::show::show_answer;
 use super::show::show_beside;
 use super::show::show_number;
 use super::show::show_two;
-use part::interpret::interpret;
-use part::shapes::Descriptor;
 use part::shapes::Interpreted;
-use part::shapes::Point;
 use part::shapes::State;
-
-// 12,240 by 15,840, increment 240, rule width 14, colour X'FF07', all else 0: the one of the theorem about the rows.
-fn descriptor() -> Descriptor
-    ensures { λ r. ⌜ r ≡ theDescriptor ⌝ }
-{
-    Descriptor {
-        size: Point { i: 12240, b: 15840 },
-        initial: Point { i: 0, b: 0 },
-        margin: 0,
-        increment: 240,
-        adjustment: 0,
-        direction: 0,
-        font: 0,
-        colour: 0xFF07,
-        rule: 14,
-        hidden: 0,
-    }
-}
-
-// The state of a fresh job under that descriptor.
-fn fresh() -> State
-    ensures { λ r. ⌜ r ≡ freshState ⌝ }
-{
-    State {
-        at: Point { i: 32768, b: 32768 },
-        margin: 0,
-        increment: 240,
-        adjustment: 0,
-        direction: 0,
-        font: 0,
-        colour: 0xFF07,
-        space: 65535,
-        suppression: 0,
-        chain: 0,
-        used: 0,
-    }
-}
-
-// All widths are the same.
-fn run(part: &[u8], width: u16, area: &mut [u8], s: State) -> Interpreted {
-    let widths = [width; 1024];
-    interpret(part, &widths, area, descriptor(), s)
-}
+use part::sheet::fresh;
+use part::sheet::on_sheet;
 
 fn show_part(part: &[u8]) {
     if part.len() == 0 {
@@ -79,7 +33,7 @@ fn submit(hex: &[u8], width: u16, area: &mut [u8], s: State) -> Interpreted {
     let mut bytes = [0u8; 64];
     let n = decode(hex, 0, &mut bytes);
     show_part(&bytes[..n]);
-    run(&bytes[..n], width, area, s)
+    on_sheet(&bytes[..n], width, area, s)
 }
 
 // An RPS whose count alone is printed.
@@ -87,7 +41,7 @@ fn submit_count(hex: &[u8], width: u16, area: &mut [u8], s: State) -> Interprete
     let mut bytes = [0u8; 64];
     let n = decode(hex, 0, &mut bytes);
     show_count(&bytes[..n]);
-    run(&bytes[..n], width, area, s)
+    on_sheet(&bytes[..n], width, area, s)
 }
 
 // One part, and whether the paper marks it P.
@@ -111,7 +65,7 @@ pub fn twice(hex: &[u8]) {
     say(b" twice | ");
     let end = decode(hex, n, &mut bytes);
     let mut area = [0u8; 4096];
-    let r = run(&bytes[..end], 144, &mut area, fresh());
+    let r = on_sheet(&bytes[..end], 144, &mut area, fresh());
     show_answer(r.answer);
     say(b" |\n");
 }

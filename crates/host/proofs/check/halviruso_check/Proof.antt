@@ -1,0 +1,23 @@
+-- `host::check::halviruso_check` meets its contract: the code of what the sheet gives.
+-- Assumes nothing.
+use borrow.Author.Needs.{needs}
+use mathlib.Core.Path.{ap}
+use Rattle.part.specs.declared.shapes.Interpreted.{Interpreted}
+use Rattle.host.proofs.check.halviruso_check.Statement.{statement}
+use Rattle.host.proofs.check.halviruso_check.Tie as tie
+
+slice-aggregate-on-sheet : tie.Need-slice-aggregate-on-sheet
+slice-aggregate-on-sheet c = search needs
+
+fresh-requires : tie.Need-fresh-requires
+fresh-requires c κs = search needs
+
+on-sheet-requires : tie.Need-on-sheet-requires
+on-sheet-requires c κs = search needs
+
+returns : tie.Need-returns
+returns c = ap (λ (x : Interpreted). x .answer .code) (rw (c .before .before .fresh .ensures) at (c .before .on-sheet .ensures .0))
+
+pub halviruso-check-spec : {M : Type 1} → statement M
+halviruso-check-spec =
+    tie.close (tie.spec slice-aggregate-on-sheet fresh-requires on-sheet-requires returns)
