@@ -1,0 +1,172 @@
+//! A hub that owns its memory.
+
+use std::fmt;
+
+use crate::ffi::{self, Lent};
+use crate::shapes::{Descriptor, Entry, Table};
+use crate::{Answer, Records, AREA, RECORDS, SLOTS, WIDTHS};
+
+/// Sixteen slots for jobs, their records and the width table.
+///
+/// A request takes the hub by `&mut`, so two never run on one table at once.
+#[derive(Clone)]
+pub struct Hub {
+    table: Box<Table>,
+    records: Box<[u8; RECORDS]>,
+    widths: Box<[u16; WIDTHS]>,
+}
+
+impl Hub {
+    /// A fresh table, zeroed records, and every character of every font 144 wide.
+    pub fn new() -> Self {
+        Self::with_widths(&[144; WIDTHS])
+    }
+
+    /// A fresh table and zeroed records; font f's code point c is `widths[256 * f + c]` wide.
+    pub fn with_widths(widths: &[u16; WIDTHS]) -> Self {
+        Self {
+            table: Box::new(ffi::fresh()),
+            records: Box::new([0; RECORDS]),
+            widths: Box::new(*widths),
+        }
+    }
+
+    /// Opens a job in a slot under a key, which must be above every key that the slot has had.
+    pub fn open(&mut self, slot: u32, key: u32, descriptor: Descriptor) -> Answer {
+        ffi::open(&mut self.table, slot, key, descriptor)
+    }
+
+    /// Submits part `number` of the job; the first is 1. Send it again, with the same number, until it is answered.
+    pub fn submit(&mut self, slot: u32, key: u32, number: u32, part: &[u8]) -> Answer {
+        let Self { table, records, widths } = self;
+        let lent = Lent { table, records: &mut records[..], widths: &widths[..] };
+        ffi::submit(lent, slot, key, number, part)
+    }
+
+    /// Closes the job of this key. Its records stay until the slot's next job writes over them.
+    pub fn close(&mut self, slot: u32, key: u32) -> Answer {
+        ffi::close(&mut self.table, slot, key)
+    }
+
+    /// How many jobs are open.
+    pub fn count(&self) -> u32 {
+        ffi::count(&self.table)
+    }
+
+    /// A slot's entry, of an open job or of the last one; `None` above slot 15.
+    pub fn entry(&self, slot: u32) -> Option<&Entry> {
+        self.table.entries.get(slot as usize)
+    }
+
+    /// All of a slot's 4,096 record bytes, in use or not; `None` above slot 15.
+    pub fn area(&self, slot: u32) -> Option<&[u8]> {
+        self.records.chunks_exact(AREA).nth(slot as usize)
+    }
+
+    /// The records of a slot's job in the order of its parts, of a closed job too; none above slot 15.
+    pub fn records(&self, slot: u32) -> Records<'_> {
+        let used = self.entry(slot).map_or(0, |entry| entry.state.used as usize);
+        let area = self.area(slot).unwrap_or_default();
+        // A damaged entry can say more than there is.
+        Records::new(&area[..used.min(area.len())])
+    }
+
+    /// The width table.
+    pub fn widths(&self) -> &[u16; WIDTHS] {
+        &self.widths
+    }
+}
+
+impl Default for Hub {
+    fn default() -> Self {
+        Self::new()
+    }
+}
+
+impl fmt::Debug for Hub {
+    /// The entries of open jobs; 65,536 record bytes help nobody.
+    fn fmt(&self, f: &mut fmt::Formatter<'_>) -> fmt::Result {
+        let open = (0..SLOTS).zip(&self.table.entries).filter(|(_, entry)| entry.is_open());
+        f.debug_map().entries(open).finish()
+    }
+}
+
+#[cfg(test)]
+mod tests {
+    use super::*;
+    use crate::{Code, Point, Record};
+
+    const SHEET: Descriptor = Descriptor {
+        size: Point { i: 12_240, b: 15_840 },
+        initial: Point { i: 0, b: 0 },
+        margin: 0,
+        increment: 240,
+        adjustment: 0,
+        direction: 0,
+        font: 0,
+        colour: 0xFF07,
+        rule: 14,
+        hidden: 0,
+    };
+
+    /// A job in slot 15 with a rule and a character.
+    fn opened() -> Hub {
+        let mut hub = Hub::new();
+        assert_eq!(hub.open(15, 1, SHEET).code, Code::DONE);
+        let answer = hub.submit(15, 1, 1, b"\x2B\xD3\x04\xE4\x05\xA0\xC1");
+        assert_eq!((answer.code, answer.first, answer.second), (Code::DONE, 2, 33));
+        hub
+    }
+
+    #[test]
+    fn a_damaged_entry_cannot_make_records_panic() {
+        let mut hub = opened();
+        for used in [4_096, 4_097, 65_536, u32::MAX] {
+            hub.table.entries[15].state.used = used;
+            // What follows the two records is zeros, and a length of 0 ends the walk.
+            assert_eq!(hub.records(15).count(), 2);
+        }
+        assert_eq!(hub.submit(15, 1, 2, b"").code, Code::DAMAGED);
+        assert_eq!(hub.close(15, 1).code, Code::DAMAGED);
+        assert_eq!(hub.count(), 1);
+    }
+
+    #[test]
+    fn records_end_at_the_bytes_used() {
+        let mut hub = opened();
+        for (used, whole) in [(0, 0), (15, 0), (16, 1), (32, 1), (33, 2)] {
+            hub.table.entries[15].state.used = used;
+            assert_eq!(hub.records(15).count(), whole, "{used} bytes used");
+        }
+    }
+
+    #[test]
+    fn hostile_record_bytes_end_the_walk() {
+        let mut hub = opened();
+        for (length, kind) in [(0, 1), (15, 1), (17, 2), (16, 9), (65_535, 1)] {
+            let [low, high] = u16::to_le_bytes(length);
+            hub.records[15 * AREA..][..4].copy_from_slice(&[low, high, kind, 0]);
+            assert_eq!(hub.records(15).count(), 0, "length {length}, kind {kind}");
+        }
+    }
+
+    #[test]
+    fn slots_above_15_have_nothing() {
+        let hub = opened();
+        for slot in [16, u32::MAX] {
+            assert_eq!((hub.entry(slot), hub.area(slot)), (None, None));
+            assert_eq!(hub.records(slot).count(), 0);
+        }
+        assert_eq!(hub.area(15).map(<[u8]>::len), Some(AREA));
+    }
+
+    #[test]
+    fn a_rule_s_record_and_the_entry_are_seen() {
+        let hub = opened();
+        let rule = Record::Rule { i: 0, b: 0, axis: 0, colour: 0xFF07, length: 1_440, width: 14 };
+        assert_eq!(hub.records(15).next(), Some(rule));
+        let entry = hub.entry(15).expect("slot 15 has an entry");
+        assert_eq!((entry.key, entry.next, entry.is_open(), entry.state.i()), (1, 2, true, 144));
+        assert_eq!(entry.descriptor, SHEET);
+    }
+}

@@ -1,0 +1,153 @@
+//! The wrapper hands on what the library answers.
+
+use halviruso::{
+    check, first_state, interpret, Answer, Code, Descriptor, Hub, Point, State, ABSENT, AREA,
+    ORIGIN, PART, WIDTHS,
+};
+
+fn sheet() -> Descriptor {
+    Descriptor {
+        size: Point { i: 12_240, b: 15_840 },
+        increment: 240,
+        colour: 0xFF07,
+        rule: 14,
+        ..Descriptor::default()
+    }
+}
+
+/// Twelve numbers that differ, all in range, so that none can stand in another's place unseen.
+fn unlike() -> Descriptor {
+    Descriptor {
+        size: Point { i: 12_001, b: 12_002 },
+        initial: Point { i: 103, b: 104 },
+        margin: 105,
+        increment: 106,
+        adjustment: 107,
+        direction: 1,
+        font: 2,
+        colour: 0xFF00,
+        rule: 111,
+        hidden: 112,
+    }
+}
+
+fn answer(code: Code, first: u32, second: u32) -> Answer {
+    Answer { code, first, second }
+}
+
+#[test]
+fn a_fresh_table_is_closed_with_last_key_0() {
+    let hub = Hub::new();
+    assert_eq!(hub.count(), 0);
+    for slot in 0..16 {
+        let entry = hub.entry(slot).unwrap();
+        assert_eq!((entry.key, entry.is_open()), (0, false));
+        assert_eq!((entry.state.i(), entry.state.b(), entry.state.space), (0, 0, ABSENT));
+    }
+}
+
+#[test]
+fn every_number_of_a_descriptor_arrives() {
+    let mut hub = Hub::new();
+    assert_eq!(hub.open(9, 5, unlike()), answer(Code::DONE, 0, 0));
+    let entry = hub.entry(9).unwrap();
+    assert_eq!((entry.key, entry.mark, entry.next), (5, 1, 1));
+    assert_eq!(entry.descriptor, unlike());
+    let begun = State {
+        at: Point { i: 103 + ORIGIN, b: 104 + ORIGIN },
+        margin: 105,
+        increment: 106,
+        adjustment: 107,
+        direction: 1,
+        font: 2,
+        colour: 0xFF00,
+        space: ABSENT,
+        suppression: 0,
+        chain: 0,
+        used: 0,
+    };
+    assert_eq!(entry.state, begun);
+    assert_eq!(first_state(unlike()), Ok(begun));
+}
+
+#[test]
+fn requests_get_their_codes() {
+    let mut hub = Hub::new();
+    assert_eq!(hub.open(16, 1, sheet()).code, Code::NO_SLOT);
+    assert_eq!(hub.open(0, 0, sheet()).code, Code::OLD_KEY);
+    assert_eq!(hub.open(0, 1, Descriptor::default()).code, Code::BAD_DESCRIPTOR);
+    assert_eq!(hub.open(0, 1, sheet()).code, Code::DONE);
+    assert_eq!(hub.open(0, 1, sheet()).code, Code::ALREADY_TAKEN);
+    assert_eq!(hub.open(0, 2, sheet()).code, Code::BUSY);
+    assert_eq!(hub.submit(0, 2, 1, b"").code, Code::NO_JOB);
+    assert_eq!(hub.submit(0, 1, 0, b"").code, Code::BAD_NUMBER);
+    assert_eq!(hub.submit(0, 1, 2, b"").code, Code::GAP);
+    assert_eq!(hub.submit(0, 1, 1, &[0xC1; PART + 1]).code, Code::LONG_PART);
+    assert_eq!(hub.submit(0, 1, 1, b"\x2B\xD3\x04\xC6\x2F\x41\xC1"), answer(Code::OUTSIDE, 6, 0));
+    assert_eq!(hub.submit(0, 1, 1, b""), answer(Code::DONE, 0, 0));
+    assert_eq!(hub.close(0, 1).code, Code::DONE);
+    assert_eq!(hub.close(0, 1).code, Code::ALREADY_TAKEN);
+    assert_eq!(hub.close(1, 1).code, Code::NO_JOB);
+}
+
+#[test]
+fn widths_given_are_the_ones_used() {
+    let mut widths = [0; WIDTHS];
+    widths[256 * 2 + 0xC1] = 10;
+    let mut hub = Hub::with_widths(&widths);
+    assert_eq!(hub.widths()[256 * 2 + 0xC1], 10);
+    assert_eq!(hub.open(0, 1, sheet()).code, Code::DONE);
+    assert_eq!(hub.submit(0, 1, 1, b"\xC1\x2B\xD3\x03\xF0\x02\xC1\xC1"), answer(Code::DONE, 3, 35));
+    assert_eq!(hub.entry(0).unwrap().state.i(), 20);
+}
+
+#[test]
+fn parts_are_checked_alone() {
+    let cases: [(&[u8], Code); 5] = [
+        (b"", Code::DONE),
+        (b"\x2B\xD3\x04\xC6\x2F\x40\xC1", Code::DONE),
+        (b"\x2B\xD3\x04\xC6\x2F\x41\xC1", Code::OUTSIDE),
+        (b"\xC1\x2B\xC1", Code::PREFIX),
+        (&[0xC1; PART + 1], Code::LONG_PART),
+    ];
+    for (part, code) in cases {
+        assert_eq!(check(part), code);
+    }
+}
+
+#[test]
+fn a_state_goes_in_and_comes_out() {
+    let state = State {
+        at: Point { i: ORIGIN + 201, b: ORIGIN + 202 },
+        margin: 203,
+        increment: 204,
+        adjustment: 205,
+        direction: 1,
+        font: 3,
+        colour: 0,
+        space: 209,
+        suppression: 110,
+        chain: 0,
+        used: 212,
+    };
+    let mut area = [0; AREA];
+    let refused = interpret(b"\x2B", &[144; WIDTHS], &mut area, sheet(), state);
+    assert_eq!((refused.answer, refused.state), (answer(Code::CUT, 0, 0), state));
+    let done = interpret(b"\x2B\xD3\x02\xD9", &[144; WIDTHS], &mut area, sheet(), state);
+    let after = State { at: Point { i: ORIGIN + 203, b: ORIGIN + 406 }, chain: 1, ..state };
+    assert_eq!((done.answer, done.state), (answer(Code::DONE, 1, 0), after));
+    assert_eq!(area, [0; AREA]);
+}
+
+#[test]
+fn wrong_lent_lengths_are_the_library_s_to_refuse() {
+    let state = first_state(sheet()).unwrap();
+    let code = |widths: usize, area: usize| {
+        interpret(b"", &vec![0; widths], &mut vec![0; area], sheet(), state).answer.code
+    };
+    assert_eq!(code(WIDTHS, AREA), Code::DONE);
+    assert_eq!(code(WIDTHS - 1, AREA), Code::LENT_LENGTH);
+    assert_eq!(code(WIDTHS, AREA + 1), Code::LENT_LENGTH);
+    assert_eq!(code(0, 0), Code::LENT_LENGTH);
+    assert_eq!(first_state(Descriptor::default()), Err(answer(Code::BAD_DESCRIPTOR, 0, 0)));
+}

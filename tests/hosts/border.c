@@ -1,0 +1,237 @@
+/*
+ * The border between C and the library: numbers arrive in their places, lengths are not cut, memory outside what is lent stays.
+ * The proofs speak of the library's side of it; that C's side is the same is tested here.
+ */
+#define _DEFAULT_SOURCE
+#include "halviruso.h"
+
+#include <stdio.h>
+#include <string.h>
+#include <sys/mman.h>
+
+static unsigned checks, wrong;
+
+#define CHECK(what)                                    \
+    do {                                               \
+        checks++;                                      \
+        if (!(what)) {                                 \
+            wrong++;                                   \
+            printf("line %d: %s\n", __LINE__, #what);  \
+        }                                              \
+    } while (0)
+
+/* What is lent stands between guards, which no call may touch. */
+static struct {
+    uint8_t before[256];
+    halviruso_table table;
+    uint8_t between[256];
+    uint8_t records[HALVIRUSO_RECORDS];
+    uint8_t behind[256];
+} lent, kept;
+
+static uint16_t widths[HALVIRUSO_WIDTHS + 1];
+
+/* Numbers that differ, so that none can stand in another's place unseen. */
+static const halviruso_descriptor UNLIKE = {{12001, 12002}, {103, 104}, 105, 106, 107, 1, 2, 0xFF00, 111, 112};
+static const halviruso_state BEGUN = {{32768 + 103, 32768 + 104}, 105, 106, 107, 1, 2, 0xFF00, HALVIRUSO_ABSENT, 0, 0, 0};
+static const halviruso_state ELSEWHERE = {{32768 + 201, 32768 + 202}, 203, 204, 205, 1, 3, 0, 209, 110, 0, 212};
+
+static int is(halviruso_answer answer, uint32_t code, uint32_t first, uint32_t second)
+{
+    return answer.code == code && answer.first == first && answer.second == second;
+}
+
+/* Fills all that is lent with numbers that are no entry, then makes the table fresh. */
+static void start(void)
+{
+    memset(&lent, 0xA5, sizeof lent);
+    lent.table = halviruso_fresh();
+    for (size_t at = 0; at <= HALVIRUSO_WIDTHS; at++)
+        widths[at] = 10;
+    kept = lent;
+}
+
+static int untouched(void)
+{
+    return memcmp(&lent, &kept, sizeof lent) == 0;
+}
+
+static halviruso_answer submit(uint32_t slot, uint32_t key, uint32_t number, const uint8_t *part, size_t length)
+{
+    return halviruso_submit(lent.table.entries, HALVIRUSO_SLOTS, lent.records, HALVIRUSO_RECORDS, widths, HALVIRUSO_WIDTHS, slot, key, number, part, length);
+}
+
+static void fresh_tables(void)
+{
+    start();
+    for (size_t slot = 0; slot < HALVIRUSO_SLOTS; slot++) {
+        CHECK(lent.table.entries[slot].key == 0);
+        CHECK(lent.table.entries[slot].mark == 0);
+    }
+    CHECK(halviruso_count(lent.table.entries, HALVIRUSO_SLOTS) == 0);
+}
+
+/* Each slot is opened and filled in turn; all the rest stays as it was. */
+static void numbers_and_neighbours(void)
+{
+    static const uint8_t part[] = {0xC1, 0xC2};
+    static const uint8_t record[] = {18, 0, 1, 0, 103, 0, 104, 0, 2, 0, 0, 0xFF, 0x95, 0xFF, 0xFF, 0xFF, 0xC1, 0xC2};
+
+    start();
+    for (uint32_t slot = 0; slot < HALVIRUSO_SLOTS; slot++) {
+        halviruso_entry expected = {UINT32_MAX - slot, 1, UNLIKE, BEGUN, 1};
+
+        CHECK(is(halviruso_open(lent.table.entries, HALVIRUSO_SLOTS, slot, UINT32_MAX - slot, UNLIKE), HALVIRUSO_DONE, 0, 0));
+        kept.table.entries[slot] = expected;
+        CHECK(untouched());
+        CHECK(halviruso_count(lent.table.entries, HALVIRUSO_SLOTS) == slot + 1);
+        /* one character is 10 wide and 107 are taken off: the second would start at 6, and I ends at -91 */
+        CHECK(is(submit(slot, UINT32_MAX - slot, 1, part, sizeof part), HALVIRUSO_DONE, 1, 18));
+        kept.table.entries[slot].state.at.i = 32768 + 103 - 2 * 97;
+        kept.table.entries[slot].state.used = 18;
+        kept.table.entries[slot].next = 2;
+        memcpy(kept.records + HALVIRUSO_AREA * slot, record, sizeof record);
+        CHECK(untouched());
+        CHECK(is(halviruso_close(lent.table.entries, HALVIRUSO_SLOTS, slot, UINT32_MAX - slot), HALVIRUSO_DONE, 0, 0));
+        kept.table.entries[slot].mark = 0;
+        CHECK(untouched());
+        kept.table.entries[slot].mark = lent.table.entries[slot].mark = 1; /* open again by hand, so that the count goes on growing */
+    }
+}
+
+static void wrong_lengths(void)
+{
+    static const size_t tables[] = {0, 1, 15};
+    halviruso_entry *table = lent.table.entries;
+
+    start();
+    for (size_t at = 0; at < 3; at++) {
+        CHECK(is(halviruso_open(table, tables[at], 0, 1, UNLIKE), HALVIRUSO_LENT_LENGTH, 0, 0));
+        CHECK(is(halviruso_close(table, tables[at], 0, 1), HALVIRUSO_LENT_LENGTH, 0, 0));
+        CHECK(halviruso_count(table, tables[at]) == 0);
+    }
+    CHECK(is(halviruso_submit(table, 15, lent.records, HALVIRUSO_RECORDS, widths, HALVIRUSO_WIDTHS, 0, 1, 1, lent.before, 1), HALVIRUSO_LENT_LENGTH, 0, 0));
+    CHECK(is(halviruso_submit(table, 16, lent.records, HALVIRUSO_RECORDS - 1, widths, HALVIRUSO_WIDTHS, 0, 1, 1, lent.before, 1), HALVIRUSO_LENT_LENGTH, 0, 0));
+    CHECK(is(halviruso_submit(table, 16, lent.records, HALVIRUSO_RECORDS + 1, widths, HALVIRUSO_WIDTHS, 0, 1, 1, lent.before, 1), HALVIRUSO_LENT_LENGTH, 0, 0));
+    CHECK(is(halviruso_submit(table, 16, lent.records, HALVIRUSO_RECORDS, widths, HALVIRUSO_WIDTHS - 1, 0, 1, 1, lent.before, 1), HALVIRUSO_LENT_LENGTH, 0, 0));
+    CHECK(is(halviruso_submit(table, 16, lent.records, HALVIRUSO_RECORDS, widths, HALVIRUSO_WIDTHS + 1, 99, 1, 1, lent.before, 1), HALVIRUSO_LENT_LENGTH, 0, 0));
+    CHECK(untouched());
+}
+
+static void greatest_numbers(void)
+{
+    start();
+    CHECK(is(halviruso_open(lent.table.entries, HALVIRUSO_SLOTS, 16, 1, UNLIKE), HALVIRUSO_NO_SLOT, 0, 0));
+    CHECK(is(halviruso_close(lent.table.entries, HALVIRUSO_SLOTS, UINT32_MAX, 1), HALVIRUSO_NO_SLOT, 0, 0));
+    CHECK(is(submit(UINT32_MAX, 1, 1, lent.before, 1), HALVIRUSO_NO_SLOT, 0, 0));
+    CHECK(untouched());
+    CHECK(is(halviruso_open(lent.table.entries, HALVIRUSO_SLOTS, 0, 1, UNLIKE), HALVIRUSO_DONE, 0, 0));
+    kept = lent;
+    CHECK(is(submit(0, 1, UINT32_MAX, lent.before, 1), HALVIRUSO_BAD_NUMBER, 0, 0));
+    CHECK(is(submit(0, 1, 65536 + 1, lent.before, 1), HALVIRUSO_BAD_NUMBER, 0, 0));
+    CHECK(is(submit(0, UINT32_MAX, 1, lent.before, 1), HALVIRUSO_NO_JOB, 0, 0));
+    CHECK(untouched());
+}
+
+/* No bytes need no memory, and bytes need no alignment. */
+static void pointers(void)
+{
+    start();
+    CHECK(is(halviruso_open(NULL, 0, 0, 1, UNLIKE), HALVIRUSO_LENT_LENGTH, 0, 0));
+    CHECK(halviruso_count(NULL, 0) == 0);
+    CHECK(halviruso_check(NULL, 0) == HALVIRUSO_DONE);
+    CHECK(is(halviruso_open(lent.table.entries, HALVIRUSO_SLOTS, 0, 1, UNLIKE), HALVIRUSO_DONE, 0, 0));
+    CHECK(is(submit(0, 1, 1, NULL, 0), HALVIRUSO_DONE, 0, 0));
+    CHECK(is(submit(0, 1, 2, (const uint8_t *)"\xC1\xC2" + 1, 1), HALVIRUSO_DONE, 1, 17));
+}
+
+static void a_state_goes_in_and_comes_out(void)
+{
+    static const uint8_t cut[] = {0x2B}, begin_line[] = {0x2B, 0xD3, 0x02, 0xD9}, text[] = {0xC1};
+    halviruso_interpreted out;
+    halviruso_state after = ELSEWHERE;
+
+    start();
+    out = halviruso_interpret(cut, sizeof cut, widths, HALVIRUSO_WIDTHS, lent.records + 1, HALVIRUSO_AREA, UNLIKE, ELSEWHERE);
+    CHECK(is(out.answer, HALVIRUSO_CUT, 0, 0) && memcmp(&out.state, &ELSEWHERE, sizeof ELSEWHERE) == 0);
+    out = halviruso_interpret(begin_line, sizeof begin_line, widths, HALVIRUSO_WIDTHS, lent.records + 1, HALVIRUSO_AREA, UNLIKE, ELSEWHERE);
+    after.at.i = 32768 + 203;
+    after.at.b = 32768 + 202 + 204;
+    after.chain = 1;
+    CHECK(is(out.answer, HALVIRUSO_DONE, 1, 0) && memcmp(&out.state, &after, sizeof after) == 0);
+    CHECK(untouched());
+    out = halviruso_interpret(text, sizeof text, widths, HALVIRUSO_WIDTHS, lent.records + 1, HALVIRUSO_AREA, UNLIKE, ELSEWHERE);
+    CHECK(is(out.answer, HALVIRUSO_DONE, 1, 17) && out.state.used == 212 + 17 && lent.records[1 + 212] == 17 && lent.records[1 + 212 + 16] == 0xC1);
+    memcpy(kept.records + 1 + 212, lent.records + 1 + 212, 17);
+    CHECK(untouched());
+}
+
+static void refusals_of_the_direct_call(void)
+{
+    halviruso_descriptor no_sheet = UNLIKE;
+    halviruso_state astray = ELSEWHERE;
+    halviruso_interpreted out;
+
+    start();
+    no_sheet.size.b = 0;
+    astray.chain = 2;
+    CHECK(halviruso_interpret(NULL, 0, widths, HALVIRUSO_WIDTHS - 1, lent.records, HALVIRUSO_AREA, UNLIKE, ELSEWHERE).answer.code == HALVIRUSO_LENT_LENGTH);
+    CHECK(halviruso_interpret(NULL, 0, widths, HALVIRUSO_WIDTHS, lent.records, HALVIRUSO_AREA + 1, UNLIKE, ELSEWHERE).answer.code == HALVIRUSO_LENT_LENGTH);
+    CHECK(halviruso_interpret(NULL, 0, widths, HALVIRUSO_WIDTHS, lent.records, HALVIRUSO_AREA, no_sheet, ELSEWHERE).answer.code == HALVIRUSO_BAD_DESCRIPTOR);
+    out = halviruso_interpret(NULL, 0, widths, HALVIRUSO_WIDTHS, lent.records, HALVIRUSO_AREA, no_sheet, astray);
+    CHECK(is(out.answer, HALVIRUSO_DAMAGED, 0, 0) && memcmp(&out.state, &astray, sizeof astray) == 0);
+    CHECK(untouched());
+}
+
+/* docs/HOSTS.md, "When a reply is late": accepted requests that come again change nothing, and what they are answered. */
+static void late_requests(void)
+{
+    static const uint32_t codes[4][3] = {{1, 1, 0}, {14, 16, 1}, {13, 16, 16}, {14, 16, 16}}; /* open, submit, close */
+    halviruso_entry *table = lent.table.entries;
+
+    start();
+    CHECK(halviruso_open(table, HALVIRUSO_SLOTS, 5, 7, UNLIKE).code == HALVIRUSO_DONE);
+    CHECK(submit(5, 7, 1, NULL, 0).code == HALVIRUSO_DONE);
+    for (size_t at = 0; at < 4; at++) {
+        kept = lent;
+        CHECK(halviruso_open(table, HALVIRUSO_SLOTS, 5, 7, UNLIKE).code == codes[at][0]);
+        CHECK(submit(5, 7, 1, NULL, 0).code == codes[at][1]);
+        CHECK(untouched());
+        /* while the job is open this is its first close; then the next job is opened, and closed */
+        CHECK(halviruso_close(table, HALVIRUSO_SLOTS, 5, 7).code == codes[at][2]);
+        CHECK(at == 0 || untouched());
+        if (at == 1)
+            CHECK(halviruso_open(table, HALVIRUSO_SLOTS, 5, 8, UNLIKE).code == HALVIRUSO_DONE);
+        if (at == 2)
+            CHECK(halviruso_close(table, HALVIRUSO_SLOTS, 5, 8).code == HALVIRUSO_DONE);
+    }
+}
+
+/* A part of 4 GB and one byte, none of them ever touched: a length cut to 32 bits would be 1, and the part a character. */
+static void lengths_are_not_cut(void)
+{
+    size_t length = ((size_t)1 << 32) + 1;
+    void *part = mmap(NULL, length, PROT_READ, MAP_PRIVATE | MAP_ANONYMOUS | MAP_NORESERVE, -1, 0);
+
+    if (part == MAP_FAILED) {
+        printf("no addresses for 4 GB here: one check is left out\n");
+        return;
+    }
+    CHECK(halviruso_check(part, length) == HALVIRUSO_LONG_PART);
+    munmap(part, length);
+}
+
+int main(void)
+{
+    fresh_tables();
+    numbers_and_neighbours();
+    wrong_lengths();
+    greatest_numbers();
+    pointers();
+    a_state_goes_in_and_comes_out();
+    refusals_of_the_direct_call();
+    late_requests();
+    lengths_are_not_cut();
+    printf("%u checks, %u wrong\n", checks, wrong);
+    return wrong == 0 ? 0 : 1;
+}
