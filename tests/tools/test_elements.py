@@ -1,0 +1,165 @@
+"""tools/elements: what it prints for bundled parts, and that it notices a library that disagrees with itself.
+
+With the argument `store` it writes the expected outputs again; look at the difference before it is kept."""
+import os
+import subprocess
+import sys
+import tempfile
+import unittest
+
+import paths
+from cases import BYTES, LAST, REAL
+from elements.loaded import Loaded
+from elements.sequences import SEQUENCES
+from elements.served import Served
+from elements.shapes import AREA, Answer, Descriptor, Entry, Interpreted, NoLibrary, State
+from elements.walk import disagreements, element_at, walk
+from ptoca.sheet import DESCRIPTOR
+from ptoca.widths import every
+
+LIBRARY = os.path.join(paths.ROOT, 'build', 'elements-host')
+RUN = os.environ.get('RUN', '')  # the emulator, where there is one
+STANDIN = os.path.join(paths.HERE, 'standin', 'target', 'release', 'libstandin.so')
+
+
+def run_elements(part, *words, library=LIBRARY):
+    command = [sys.executable, '-B', os.path.join(paths.TOOLS, 'elements'), part, '--library', library, '--run', RUN, *words]
+    return subprocess.run(command, capture_output=True, text=True, encoding='utf-8', check=False)
+
+
+def printed(name, library=LIBRARY):
+    """What the tool prints for a case."""
+    if name in REAL:
+        part, words = REAL[name]
+        return run_elements(paths.real(part), *words, library=library)
+    with tempfile.TemporaryDirectory() as folder:
+        part = os.path.join(folder, f'{name}.part')
+        with open(part, 'wb') as file:
+            file.write(bytes.fromhex(BYTES[name]))
+        return run_elements(part, library=library)
+
+
+class Expected(unittest.TestCase):
+    """A test for each case: the text is the stored one, and nothing is wrong."""
+
+
+class Standin(unittest.TestCase):
+    """The same of the second implementation, loaded as a shared library."""
+
+
+def against_stored(name, library):
+    def test(self):
+        made = printed(name, library)
+        self.assertEqual((made.returncode, made.stderr), (0, ''))
+        self.assertEqual(made.stdout, paths.text('expected', f'{name}.txt'))
+    return test
+
+
+for case in [*REAL, *BYTES]:
+    setattr(Expected, 'test_' + case.replace('-', '_'), against_stored(case, LIBRARY))
+    setattr(Standin, 'test_' + case.replace('-', '_'), against_stored(case, STANDIN))
+
+
+def last_line(name, words, expected):
+    def test(self):
+        made = run_elements(paths.real(name), *words)
+        self.assertEqual((made.returncode, made.stderr), (0, ''))
+        self.assertEqual(made.stdout.splitlines()[-1], expected)
+    return test
+
+
+for file_name, (options, line) in LAST.items():
+    setattr(Expected, 'test_end_of_' + file_name.split('-p')[0].replace('-', '_'), last_line(file_name, options, line))
+
+
+class Lying:
+    """A library that is right about elements and changes one thing about whole parts."""
+
+    def __init__(self, library, whole, change):
+        self.library, self.whole, self.change = library, whole, change
+
+    def opened(self, descriptor):
+        return self.library.opened(descriptor)
+
+    def interpret(self, part, widths, area, descriptor, state):
+        answer, after = self.library.interpret(part, widths, area, descriptor, state)
+        if part == self.whole:
+            self.change(answer, after, area)
+        return answer, after
+
+
+class Disagreeing(unittest.TestCase):
+    @classmethod
+    def setUpClass(cls):
+        cls.library = Served([*RUN.split(), LIBRARY])
+
+    @classmethod
+    def tearDownClass(cls):
+        cls.library.close()
+
+    def told(self, hexadecimal, change):
+        part, descriptor, area, whole_area = bytes.fromhex(hexadecimal), Descriptor(**DESCRIPTOR), bytearray(AREA), bytearray(AREA)
+        library = Lying(self.library, part, change)
+        _, start = library.opened(descriptor)
+        whole, end = library.interpret(part, every(), whole_area, descriptor, start)
+        return disagreements(walk(library, part, every(), area, descriptor, start), start, (area, whole_area), whole, end)
+
+    def test_the_truth_is_no_disagreement(self):
+        self.assertEqual(self.told(BYTES['example'], lambda answer, after, area: None), [])
+        self.assertEqual(self.told(BYTES['outside'], lambda answer, after, area: None), [])
+
+    def test_a_count(self):
+        self.assertTrue(self.told(BYTES['example'], lambda answer, after, area: setattr(answer, 'first', 4)))
+
+    def test_record_bytes(self):
+        self.assertTrue(self.told(BYTES['example'], lambda answer, after, area: setattr(answer, 'second', 17)))
+
+    def test_an_end(self):
+        self.assertTrue(self.told(BYTES['example'], lambda answer, after, area: setattr(after, 'b', 0)))
+
+    def test_an_area(self):
+        self.assertTrue(self.told(BYTES['example'], lambda answer, after, area: area.__setitem__(3, 1)))
+
+    def test_a_refusals_code(self):
+        self.assertTrue(self.told(BYTES['outside'], lambda answer, after, area: setattr(answer, 'code', 28)))
+
+    def test_a_refusals_offset(self):
+        self.assertTrue(self.told(BYTES['outside'], lambda answer, after, area: setattr(answer, 'first', 5)))
+
+    def test_a_refusal_of_what_passes_in_pieces(self):
+        self.assertTrue(self.told(BYTES['example'], lambda answer, after, area: setattr(answer, 'code', 24)))
+
+
+class Pieces(unittest.TestCase):
+    def test_where_elements_end(self):
+        part = bytes.fromhex('C1C22BD304C60001C3')
+        self.assertEqual([element_at(part, at, 0).raw.hex() for at in (0, 2, 8)], ['c1c2', '2bd304c60001', 'c3'])
+        self.assertEqual(element_at(bytes.fromhex('2B0003'), 0, 1).raw.hex(), '2b0003')
+
+    def test_layouts_are_those_of_the_header(self):
+        from ctypes import sizeof
+        self.assertEqual([sizeof(kind) for kind in (Descriptor, State, Entry, Answer, Interpreted)], [48, 48, 108, 12, 60])
+
+    def test_nineteen_sequences(self):
+        self.assertEqual((len(SEQUENCES), all(kind % 2 == 0 for kind in SEQUENCES)), (19, True))
+
+    def test_a_missing_library_is_an_error(self):
+        self.assertRaises(NoLibrary, Loaded, os.path.join(paths.HERE, 'none.so'))
+        self.assertRaises(NoLibrary, Served, [os.path.join(paths.HERE, 'none')])
+        self.assertEqual(run_elements(paths.real('payroll-p01o01x01.part'), library='none.so').returncode, 1)
+
+
+def store():
+    for name in [*REAL, *BYTES]:
+        made = printed(name)
+        if made.returncode != 0:
+            sys.exit(f'{name}: nothing to store: {made.stderr}')
+        with open(os.path.join(paths.HERE, 'expected', f'{name}.txt'), 'w', encoding='utf-8') as file:
+            file.write(made.stdout)
+
+
+if __name__ == '__main__':
+    if sys.argv[1:] == ['store']:
+        store()
+    else:
+        unittest.main()

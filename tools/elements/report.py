@@ -1,0 +1,105 @@
+"""The elements in words, one a line; and the bytes around a refusal with a mark."""
+from ptoca.letters import letter, line
+from ptoca.refusals import reason
+
+from elements.shapes import ABSENT
+from elements.sequences import split
+
+SHOWN = 40   # characters of a text that are printed
+ROW = 16     # bytes to a line of the dump
+NAMES = {
+    'i': 'I', 'b': 'B', 'margin': 'margin', 'increment': 'increment', 'adjustment': 'adjustment', 'direction': 'direction',
+    'font': 'font', 'colour': 'colour', 'space': 'variable space', 'suppression': 'suppression',
+}
+
+
+def plural(count, one):
+    return f'{count:,} {one}' + ('' if count == 1 else 's')
+
+
+def quoted(text, code_page):
+    if len(text) <= SHOWN:
+        return line(text, code_page)
+    return f'{line(text[:SHOWN], code_page)}.. of {len(text)}'
+
+
+def values(element, code_page):
+    """The parameters in words, as they stand in the part."""
+    sequence = element.sequence()
+    if element.intro is None:
+        return quoted(element.raw, code_page)
+    if sequence is None:
+        return ''
+    raw = element.parameters()
+    said = [parameter.said(own) for parameter, _, own in split(sequence, raw)]
+    if sequence.text is not None:
+        said.append(quoted(raw[sequence.text:], code_page))
+    return ', '.join(said)
+
+
+def spelled(name, value):
+    if name == 'space' and value == ABSENT:
+        return 'absent'
+    return f"X'{value:04X}'" if name == 'colour' else str(value)
+
+
+def changes(before, after):
+    """What the element made of the state's numbers."""
+    one, other = before.values(), after.values()
+    return [f'{said} {spelled(name, one[name])} -> {spelled(name, other[name])}' for name, said in NAMES.items() if one[name] != other[name]]
+
+
+def apart(raw):
+    """Records one by one, by their own lengths."""
+    while raw:
+        size = int.from_bytes(raw[:2], 'little')
+        yield raw[:size]
+        raw = raw[size:]
+
+
+def record(raw):
+    """A record in words: little-endian numbers, I and B signed."""
+    numbers = [int.from_bytes(raw[k:k + 2], 'little', signed=k in (4, 6)) for k in range(0, 16, 2)]
+    _, kind, i, b, first, _, third, fourth = numbers
+    if kind == 1:
+        return f'text record of {plural(len(raw), "byte")} at {i}, {b}: {plural(len(raw) - 16, "character")}'
+    return f'rule record at {i}, {b}: {"DBR" if first else "DIR"} of {third} by {fourth}'
+
+
+def effect(step):
+    """What the element did: its record, and what it moved or set."""
+    if step.answer.code != 0:
+        return f'REFUSED with {step.answer.code}: {reason(step.answer.code)}'
+    did = [record(raw) for raw in apart(step.records)] + changes(step.before, step.after)
+    return '; '.join(did) if did else 'nothing changes'
+
+
+def row(step, code_page):
+    element = step.element
+    sequence = element.sequence()
+    if element.intro is None:
+        head = f'   {"text":<5}{"free run":<39}'
+    elif sequence is None:
+        head = f'   {"?":<5}{"no whole introducer":<39}'
+    else:
+        head = f'{element.type():02X} {sequence.mnemonic:<5}{sequence.name:<39}'
+    return f'{element.at:>5}  {head} {values(element, code_page):<31}  {effect(step)}'
+
+
+def dump(part, mark, code_page):
+    """The lines of bytes around a place, with a caret below it."""
+    lines, middle = [], mark // ROW * ROW
+    for start in range(max(middle - ROW, 0), min(middle + 2 * ROW, len(part)), ROW):
+        data = part[start:start + ROW]
+        pairs = ' '.join(f'{byte:02X}' for byte in data)
+        letters = ''.join(letter(byte, code_page) or '.' for byte in data)
+        lines.append(f'{start:>9}  {pairs:<47}  {letters}')
+        if start == middle:
+            lines.append(' ' * (11 + 3 * (mark - start)) + '^^')
+    return lines
+
+
+def ending(answer, end):
+    values_ = end.values()
+    return (f'accepted: {plural(answer.first, "element")}, {plural(answer.second, "record byte")}; '
+            f'ends at I {values_["i"]}, B {values_["b"]}' + (', chain open' if end.chain else ''))
