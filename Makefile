@@ -1,5 +1,5 @@
 # `make run` lists a real part and draws its page; `make test` is the gate. `make help` names the rest.
-.PHONY: run test check lib listing page elements lines sheets help clean
+.PHONY: run test check lib listing page elements replay soak bench lines sheets help clean
 
 # text and rules on one sheet, by a composer outside this project
 SHOWN = tests/real/c-table-p01o01x01.part
@@ -42,6 +42,21 @@ elements: lib
 	@tools/elements/build
 	@. tools/x86_64.sh && python3 tools/elements --run "$$RUN" "$(PART)"
 
+# build/replay: replay scripts on the proved library; build/replay --peer: on the second implementation
+replay: lib
+	replay/build
+
+# compares the two for SECONDS from a new seed, which it prints; SEED=s goes on from that one instead
+SECONDS = 60
+soak: replay
+	@cargo build --quiet --offline --release --target-dir build/cargo --manifest-path tests/compare/Cargo.toml
+	@build/cargo/release/compare --seconds $(SECONDS) $(if $(SEED),--seed $(SEED))
+
+# times beside the second implementation's and plain C's; x86-64 machines only
+bench: lib
+	@cargo build --quiet --offline --release --target-dir build/cargo --manifest-path bench/Cargo.toml
+	@build/cargo/release/bench $(BENCH)
+
 # the counts in docs/READING.md, after files have changed
 lines:
 	tools/lines docs/READING.md
@@ -54,6 +69,9 @@ help:
 	@echo 'make lib                build/libhalviruso.a, for hosts in C, C++ and Rust'
 	@echo 'make listing            target/bin/listing'
 	@echo 'make page PART=file     build/page.svg, the sheet of a part'
+	@echo 'make replay             build/replay, which runs scripts of requests: tests/compare/retry.replay is one'
+	@echo 'make soak SECONDS=n     compares library and second implementation for n seconds from a new seed'
+	@echo 'make bench              times beside the second implementation and plain C, on x86-64'
 	@echo 'make elements PART=file the elements of a part'
 
 clean:

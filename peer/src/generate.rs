@@ -11,6 +11,6 @@ mod requests;
 mod rng;
 
 pub use numbers::{descriptor, entry, state, Reach};
-pub use parts::{case, part, sized_part, Case, Ground};
+pub use parts::{case, mutate, part, sized_part, Case, Ground};
 pub use requests::Requests;
 pub use rng::Rng;

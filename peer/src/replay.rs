@@ -4,6 +4,7 @@ use std::fmt;
 use std::io::{self, BufRead, Write};
 
 use crate::answer::Answer;
+use crate::check::check;
 use crate::hub::{self, Lent};
 use crate::interpret::interpret;
 use crate::listing::Hex;
@@ -13,6 +14,8 @@ use crate::script::{Lend, Step};
 
 /// An implementation of the hub, asked over memory that it is lent for each call.
 pub trait Backend {
+    /// A fresh table.
+    fn fresh(&mut self) -> [Entry; SLOTS];
     /// Opens a job.
     fn open(&mut self, table: &mut [Entry], slot: u32, key: u32, d: &Descriptor) -> Answer;
     /// Submits a part.
@@ -30,6 +33,8 @@ pub trait Backend {
         d: &Descriptor,
         s: &mut State,
     ) -> Answer;
+    /// The code of one part alone.
+    fn check(&mut self, part: &[u8]) -> u32;
 }
 
 /// This crate's own hub.
@@ -37,6 +42,10 @@ pub trait Backend {
 pub struct Peer;
 
 impl Backend for Peer {
+    fn fresh(&mut self) -> [Entry; SLOTS] {
+        [Entry::FRESH; SLOTS]
+    }
+
     fn open(&mut self, table: &mut [Entry], slot: u32, key: u32, d: &Descriptor) -> Answer {
         hub::open(table, slot, key, d)
     }
@@ -63,6 +72,10 @@ impl Backend for Peer {
     ) -> Answer {
         interpret(part, widths, area, d, s)
     }
+
+    fn check(&mut self, part: &[u8]) -> u32 {
+        check(part)
+    }
 }
 
 /// The memory that a script's requests are lent; beyond the real lengths it is zero and closed.
@@ -77,15 +90,15 @@ pub struct Memory {
 }
 
 impl Memory {
-    /// A fresh table, zero record bytes, widths of 144.
-    fn new() -> Self {
+    /// This fresh table, zero record bytes, widths of 144.
+    fn new(fresh: [Entry; SLOTS]) -> Self {
         let beyond = Entry { state: ZERO_STATE, next: 0, ..Entry::FRESH };
         let mut memory = Self {
             table: vec![beyond; Lend::MOST.table],
             records: vec![0; Lend::MOST.records],
             widths: vec![0; Lend::MOST.widths],
         };
-        memory.table[..SLOTS].fill(Entry::FRESH);
+        memory.table[..SLOTS].copy_from_slice(&fresh);
         memory.widths[..WIDTHS].fill(144);
         memory
     }
@@ -145,9 +158,10 @@ pub struct Replay<B> {
 
 impl<B: Backend> Replay<B> {
     /// Fresh memory, lent in its right lengths.
-    pub fn new(backend: B) -> Self {
+    pub fn new(mut backend: B) -> Self {
         let lend = Lend { table: SLOTS, records: RECORDS, widths: WIDTHS };
-        Self { backend, memory: Memory::new(), lend }
+        let memory = Memory::new(backend.fresh());
+        Self { backend, memory, lend }
     }
 
     /// The memory as it stands.
@@ -199,7 +213,7 @@ impl<B: Backend> Replay<B> {
                 }
             }
             Step::Fill(byte) => self.memory.records[..RECORDS].fill(byte),
-            Step::Fresh => self.memory.table[..SLOTS].fill(Entry::FRESH),
+            Step::Fresh => self.memory.table[..SLOTS].copy_from_slice(&self.backend.fresh()),
             Step::Lend(Lend { table, records, widths }) => {
                 self.lend = Lend {
                     table: table.min(Lend::MOST.table),

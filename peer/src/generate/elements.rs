@@ -107,14 +107,15 @@ fn free_run(rng: &mut Rng, longest: usize) -> Vec<u8> {
 
 /// Letters, spaces and now and then any byte, such as those that start a sequence.
 fn characters(rng: &mut Rng, longest: usize) -> Vec<u8> {
-    (0..rng.size(longest + 1))
-        .map(|_| match rng.below(16) {
-            0 => rng.byte(),
-            1 => rng.pick(&[PREFIX, CLASS, 0x00, 0xFF]),
-            2..=4 => 0x40,
-            _ => 0xC1 + rng.below(9) as u8,
-        })
-        .collect()
+    let length = rng.size(longest + 1);
+    // One draw for each character: long texts are most of the work of making a part.
+    let character = |bits: u64| match bits >> 60 {
+        0 => bits as u8,
+        1 => [PREFIX, CLASS, 0x00, 0xFF][bits as usize % 4],
+        2..=4 => 0x40,
+        _ => 0xC1 + (bits as u32 % 9) as u8,
+    };
+    (0..length).map(|_| character(rng.bits())).collect()
 }
 
 fn two(number: u16) -> [u8; 2] {

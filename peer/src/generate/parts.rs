@@ -180,11 +180,11 @@ impl<'a> Draft<'a> {
 
 /// A length of a part: mostly short, now and then any, or at the limit.
 fn length(rng: &mut Rng) -> usize {
-    match rng.below(16) {
-        0 => rng.pick(&[0, 1, 2, 3, 4]),
-        1 => rng.pick(&[LONGEST_PART - 1, LONGEST_PART, LONGEST_PART]),
-        2 | 3 => rng.size(LONGEST_PART + 1),
-        4..=6 => rng.size(800),
+    match rng.below(32) {
+        0 | 1 => rng.pick(&[0, 1, 2, 3, 4]),
+        2 => rng.pick(&[LONGEST_PART - 1, LONGEST_PART, LONGEST_PART]),
+        3 | 4 => rng.size(LONGEST_PART + 1),
+        5..=11 => rng.size(800),
         _ => rng.size(100),
     }
 }
@@ -195,7 +195,10 @@ pub fn part(rng: &mut Rng, ground: &Ground<'_>) -> Vec<u8> {
     let mut draft = Draft::new(rng, ground);
     match rng.below(32) {
         0 => return any_bytes(rng, size),
-        1 => return sized_part(rng, ground, LONGEST_PART + 1),
+        1 => {
+            let over = rng.pick(&[1, 1, 1, 2, 3, 7, 8, 255, LONGEST_PART, 65_536]);
+            return sized_part(rng, ground, LONGEST_PART + over);
+        }
         2 => {
             let short = rng.size(40);
             draft.grow(rng, LONGEST_PART - short);
@@ -255,7 +258,7 @@ fn any_bytes(rng: &mut Rng, size: usize) -> Vec<u8> {
 }
 
 /// Changes a part in one to four places.
-fn mutate(rng: &mut Rng, part: &mut Vec<u8>) {
+pub fn mutate(rng: &mut Rng, part: &mut Vec<u8>) {
     for _ in 0..rng.between(1, 4) {
         let at = rng.size(part.len() + 1);
         let until = at + rng.size((part.len() - at).min(12) + 1);

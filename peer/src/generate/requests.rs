@@ -19,12 +19,15 @@ pub struct Requests {
     reach: Reach,
     replay: Replay<Peer>,
     recent: Vec<Step>,
+    /// Steps decided on already, the next one last.
+    waiting: Vec<Step>,
 }
 
 impl Requests {
     /// The sequence of a seed.
     pub fn new(seed: u64, reach: Reach) -> Self {
-        Self { rng: Rng::new(seed), reach, replay: Replay::new(Peer), recent: Vec::new() }
+        let (recent, waiting) = (Vec::new(), Vec::new());
+        Self { rng: Rng::new(seed), reach, replay: Replay::new(Peer), recent, waiting }
     }
 
     /// This crate's hub as the steps so far have left it.
@@ -32,13 +35,32 @@ impl Requests {
         &self.replay
     }
 
+    /// A request that suits the memory as it stands, for whoever asks to do with it as they like.
+    pub fn request(&mut self) -> Step {
+        match self.rng.below(20) {
+            0..=11 => self.submit(),
+            12..=16 => self.open(),
+            _ => self.close(),
+        }
+    }
+
+    /// Does a step, as if the sequence had chosen it.
+    pub fn make(&mut self, step: &Step) -> Said {
+        self.remember(step);
+        self.replay.step(step)
+    }
+
     /// Wrong lengths are lent for a few steps only.
     fn choose(&mut self) -> Step {
+        if let Some(step) = self.waiting.pop() {
+            return step;
+        }
         if self.replay.lend() != RIGHT && self.rng.chance(1, 5) {
             return Step::Lend(RIGHT);
         }
         match self.rng.below(100) {
-            0..=44 => self.submit(),
+            0..=42 => self.submit(),
+            43 | 44 => self.swapped(),
             45..=59 => self.open(),
             60..=66 => self.close(),
             67..=77 => self.direct(),
@@ -126,6 +148,25 @@ impl Requests {
         };
         let part = self.part(slot);
         Step::Submit { slot: self.named(slot), key: self.key(key), number, part }
+    }
+
+    /// Two requests of one slot in the wrong order; then both again, in the right one.
+    fn swapped(&mut self) -> Step {
+        let first = match self.rng.below(3) {
+            0 => self.open(),
+            1 => self.close(),
+            _ => self.submit(),
+        };
+        let (slot, key, number) = match first {
+            Step::Open { slot, key, .. } => (slot, key, 1),
+            Step::Submit { slot, key, number, .. } => (slot, key, number.wrapping_add(1)),
+            Step::Close { slot, key } => (slot, key, self.entry(slot as usize % SLOTS).next),
+            _ => return first,
+        };
+        let part = self.part(slot as usize % SLOTS);
+        let second = Step::Submit { slot, key, number, part };
+        self.waiting = vec![second.clone(), first];
+        second
     }
 
     /// A part for a slot, as its job stands.
@@ -226,8 +267,7 @@ impl Iterator for Requests {
 
     fn next(&mut self) -> Option<Self::Item> {
         let step = self.choose();
-        self.remember(&step);
-        let said = self.replay.step(&step);
+        let said = self.make(&step);
         Some((step, said))
     }
 }
