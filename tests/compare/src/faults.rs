@@ -1,0 +1,152 @@
+//! Hubs with one thing wrong, which the tests have to find.
+
+use peer::hub::Lent;
+use peer::model::{AREA, SLOTS};
+use peer::replay::Backend;
+use peer::{Answer, Code, Descriptor, Entry, State};
+
+/// What is wrong, and which test is to find it.
+#[derive(Clone, Copy, Debug, PartialEq, Eq)]
+pub enum Fault {
+    FreshKey,
+    OpenKey,
+    CloseForgets,
+    CountOff,
+    RecordByte,
+    NeighbourByte,
+    RefusalTouches,
+    AddedOff,
+    PartElements,
+    PartRecord,
+    PartState,
+    PartRefusal,
+    CheckCode,
+    Order,
+    Retaken,
+    Reclosed,
+}
+
+/// Every fault, its name for `--break`, and the test that is to find it.
+pub const FAULTS: [(Fault, &str, &str); 16] = [
+    (Fault::FreshKey, "fresh-key", "requests"),
+    (Fault::OpenKey, "open-key", "requests"),
+    (Fault::CloseForgets, "close-forgets", "requests"),
+    (Fault::CountOff, "count-off", "requests"),
+    (Fault::RecordByte, "record-byte", "requests"),
+    (Fault::NeighbourByte, "neighbour-byte", "requests"),
+    (Fault::RefusalTouches, "refusal-touches", "requests"),
+    (Fault::AddedOff, "added-off", "requests"),
+    (Fault::PartElements, "part-elements", "parts"),
+    (Fault::PartRecord, "part-record", "parts"),
+    (Fault::PartState, "part-state", "parts"),
+    (Fault::PartRefusal, "part-refusal", "parts"),
+    (Fault::CheckCode, "check-code", "parts"),
+    (Fault::Order, "order", "swap"),
+    (Fault::Retaken, "retaken", "repeat"),
+    (Fault::Reclosed, "reclosed", "repeat"),
+];
+
+/// A hub with a fault.
+#[derive(Clone, Debug)]
+pub struct Broken<B> {
+    hub: B,
+    fault: Fault,
+    /// The slot asked for before, which no hub should remember.
+    before: u32,
+}
+
+impl<B> Broken<B> {
+    pub fn new(hub: B, fault: Fault) -> Self {
+        Self { hub, fault, before: 0 }
+    }
+
+    fn is(&self, fault: Fault) -> bool {
+        self.fault == fault
+    }
+}
+
+impl<B: Backend> Backend for Broken<B> {
+    fn fresh(&mut self) -> [Entry; SLOTS] {
+        let mut table = self.hub.fresh();
+        table[SLOTS - 1].key += u32::from(self.is(Fault::FreshKey));
+        table
+    }
+
+    fn open(&mut self, table: &mut [Entry], slot: u32, key: u32, d: &Descriptor) -> Answer {
+        let answer = self.hub.open(table, slot, key, d);
+        if answer.is_done() && self.is(Fault::OpenKey) {
+            table[slot as usize].key = key.wrapping_add(1);
+        }
+        self.before = slot;
+        answer
+    }
+
+    fn submit(&mut self, lent: Lent<'_>, slot: u32, key: u32, number: u32, part: &[u8]) -> Answer {
+        let Lent { table, records, widths } = lent;
+        let lent = Lent { table: &mut *table, records: &mut *records, widths };
+        let mut answer = self.hub.submit(lent, slot, key, number, part);
+        let at = slot as usize;
+        match self.fault {
+            Fault::RecordByte if answer.second > 0 => {
+                records[AREA * at + table[at].state.used as usize - 1] ^= 1;
+            }
+            Fault::NeighbourByte if answer.is_done() => {
+                records[AREA * ((at + 1) % SLOTS)] ^= 1;
+            }
+            Fault::RefusalTouches if answer.code == Code::Room as u32 => {
+                records[AREA * at + AREA - 1] ^= 1;
+            }
+            Fault::AddedOff if answer.is_done() => answer.second += 1,
+            Fault::Order if answer.is_done() && self.before > slot => records[AREA * at] ^= 1,
+            Fault::Retaken if answer.code == Code::Taken as u32 => table[at].next += 1,
+            _ => {}
+        }
+        self.before = slot;
+        answer
+    }
+
+    fn close(&mut self, table: &mut [Entry], slot: u32, key: u32) -> Answer {
+        let answer = self.hub.close(table, slot, key);
+        if answer.is_done() && self.is(Fault::CloseForgets) {
+            table[slot as usize].key = 0;
+        }
+        self.before = slot;
+        if answer.code == Code::Taken as u32 && self.is(Fault::Reclosed) {
+            return Answer::only(Code::Done);
+        }
+        answer
+    }
+
+    fn count(&mut self, table: &[Entry]) -> u32 {
+        let count = self.hub.count(table);
+        count + u32::from(self.is(Fault::CountOff) && count > 3)
+    }
+
+    fn direct(
+        &mut self,
+        part: &[u8],
+        widths: &[u16],
+        area: &mut [u8],
+        d: &Descriptor,
+        s: &mut State,
+    ) -> Answer {
+        let mut answer = self.hub.direct(part, widths, area, d, s);
+        match self.fault {
+            Fault::PartElements if answer.first > 20 && answer.is_done() => answer.first -= 1,
+            Fault::PartRecord if answer.second > 0 => area[s.used as usize - 1] ^= 1,
+            Fault::PartState if answer.second > 0 => s.margin += 1,
+            Fault::PartRefusal if answer.code == Code::Pairing as u32 => s.suppression ^= 1,
+            _ => {}
+        }
+        answer
+    }
+
+    fn check(&mut self, part: &[u8]) -> u32 {
+        match self.hub.check(part) {
+            code if code == Code::Position as u32 && self.is(Fault::CheckCode) => {
+                Code::Outside as u32
+            }
+            code => code,
+        }
+    }
+}

@@ -1,0 +1,122 @@
+//! Replay scripts as text: what odd lines say, and that both hubs print the same to any bytes.
+
+use peer::generate::{Reach, Requests, Rng};
+use peer::replay::{Backend, Peer, Replay};
+
+use crate::difference::Difference;
+
+/// Steps of one seed's script.
+const STEPS: usize = 60;
+/// Times that a seed's script is spoilt.
+const SPOILT: usize = 6;
+
+const OPEN: &str = "open 0 1 12240 15840 0 0 0 240 0 0 0 65287 14 0\n";
+const SET: &str = "set 0 1 1 9 9 0 0 0 0 0 0 0 0 0 0";
+
+/// Lines that are bad, and end a run.
+const BAD: [&str; 29] = [
+    " ",
+    "bad",
+    "Count",
+    "count\r",
+    "count ",
+    " count",
+    "\0",
+    "close\t0 1",
+    "close 0  1",
+    "close 0 +1",
+    "close 0 -0",
+    "close 0 1 \0",
+    "close 0 \u{663}",
+    "close 4294967296 0",
+    "close 0 18446744073709551616",
+    "close 0 99999999999999999999999999999999999999999",
+    "submit 0 1 1 2",
+    "submit 0 1 1 ",
+    "submit 0 1 1 2G",
+    "show 16",
+    "direct 16 -",
+    "bytes 0 1 0",
+    "bytes 0 0 4097",
+    "widths 65536",
+    "fill 256",
+    "width 0 256 1",
+    "lend 21 0 0",
+    "set 0 1 1 9 9 0 0 0 0 0 0 0 0 0 0 0 0 0 0 0 0 0 0 65535 0 2 1 0",
+    "set 0 1 1 9 9 0 0 0 0 0 0 0 0 0 0 -32769 0 0 0 0 0 0 0 65535 0 0 1 0",
+];
+
+/// Scripts and what they print.
+fn rows() -> Vec<(Vec<u8>, String)> {
+    let row = |script: &str, out: &str| (script.as_bytes().to_vec(), out.to_string());
+    let mut rows: Vec<_> = BAD
+        .iter()
+        .map(|line| row(&format!("count\n{line}\ncount\n"), "COUNT 0\nBAD LINE 2\n"))
+        .collect();
+    rows.extend([
+        row("", ""),
+        row("\n\n# any words\n#\ncount\n", "COUNT 0\n"),
+        row("count", "BAD LINE 1\n"),
+        row("count\ncount", "COUNT 0\nBAD LINE 2\n"),
+        row("# no newline", "BAD LINE 1\n"),
+        row("close 0000000000000000000000000000000015 01\n", "16 0 0\n"),
+        row("close 4294967295 4294967295\n", "11 0 0\n"),
+        row("submit 0 1 1 2b\n", "16 0 0\n"),
+        row("bytes 0 0 0\nbytes 15 4096 4096\n", "-\n-\n"),
+        row("lend 20 65540 1028\ncount\nclose 0 1\n", "COUNT 0\n10 0 0\n"),
+        row("lend 0 0 0\nsubmit 0 1 1 -\ndirect 0 -\n", "10 0 0\n10 0 0\n"),
+        row(&format!("{SET} -0 -007 0 0 0 0 0 0 65535 0 0 1 0\ncount\n"), "COUNT 1\n"),
+        row(&format!("{OPEN}fresh\ncount\n"), "0 0 0\nCOUNT 0\n"),
+        row(&format!("{OPEN}submit 0 1 1 -\nsubmit 0 1 1 c1\n"), "0 0 0\n0 0 0\n1 0 0\n"),
+        row(&format!("{OPEN}submit 0 1 1 {}\n", "C1".repeat(1 << 21)), "0 0 0\n19 0 0\n"),
+        row(&format!("count{}\n", " ".repeat(1 << 22)), "BAD LINE 1\n"),
+        row(&format!("close 0 {}1\n", "0".repeat(1 << 20)), "16 0 0\n"),
+        (b"# \xFF\xFE\x80\ncount\n".to_vec(), "COUNT 0\n".to_string()),
+        (b"count\n\xFFcount\n".to_vec(), "COUNT 0\nBAD LINE 2\n".to_string()),
+    ]);
+    rows
+}
+
+fn printed<B: Backend>(hub: B, script: &[u8]) -> Vec<u8> {
+    let mut out = Vec::new();
+    if let Err(error) = Replay::new(hub).run(script, &mut out) {
+        out.extend(error.to_string().as_bytes());
+    }
+    out
+}
+
+/// Runs the rows; the number of them, or what differs.
+pub fn odd_lines<B: Backend + Clone>(hub: &B) -> Result<usize, String> {
+    let rows = rows();
+    for (at, (script, out)) in rows.iter().enumerate() {
+        let got = printed(hub.clone(), script);
+        if got != out.as_bytes() {
+            let shown = String::from_utf8_lossy(&script[..script.len().min(80)]).into_owned();
+            let got = String::from_utf8_lossy(&got).into_owned();
+            return Err(format!("row {at}, {shown:?}: {got:?}, not {out:?}"));
+        }
+    }
+    Ok(rows.len())
+}
+
+/// A seed's script, whole and spoilt, on both; the number of scripts.
+pub fn compare<B: Backend + Clone>(hub: &B, seed: u64) -> Result<usize, Difference> {
+    let mut rng = Rng::new(seed);
+    let steps: Vec<_> =
+        Requests::new(seed, Reach::Script).take(STEPS).map(|(step, _)| step).collect();
+    let whole: String = steps.iter().map(|step| format!("{step}\n")).collect();
+    for round in 0..=SPOILT {
+        let mut script = whole.clone().into_bytes();
+        for _ in 0..round {
+            let at = rng.size(script.len());
+            let any = rng.byte();
+            script[at] = rng.pick(&[b' ', b'\n', b'-', b'0', b'9', b'#', 0, 0xC3, any]);
+        }
+        if printed(hub.clone(), &script) != printed(Peer, &script) {
+            let what =
+                format!("the text of these steps, changed in {round} places, prints otherwise");
+            return Err(Difference { test: "scripts", seed, what, steps });
+        }
+    }
+    Ok(SPOILT + 1)
+}
