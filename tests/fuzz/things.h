@@ -1,0 +1,18 @@
+/* Parts, descriptors, states and entries: as the rules want them, nearly so, or any bytes at all. */
+#ifndef THINGS_H
+#define THINGS_H
+
+#include "halviruso.h"
+
+enum { LONGEST = 8192 + 64 };
+
+halviruso_descriptor a_descriptor(void);
+halviruso_state a_state(const halviruso_descriptor *d);
+halviruso_entry an_entry(void);
+
+/* Keeps a part of a file, to be changed later. */
+void keep_sample(const char *path);
+/* Writes a part of at most LONGEST bytes, for a state whose chain is open or not; gives its size. */
+size_t a_part(unsigned char *bytes, int chained);
+
+#endif

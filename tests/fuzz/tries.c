@@ -1,0 +1,261 @@
+#include "tries.h"
+
+#include <signal.h>
+#include <stdio.h>
+#include <stdlib.h>
+#include <string.h>
+#include <unistd.h>
+
+#include "chance.h"
+#include "things.h"
+
+enum { ENTRY = sizeof(halviruso_entry), MOST_ENTRIES = 24, MOST_RECORDS = 70000, MOST_AREA = 4400, MOST_WIDTHS = 1200 };
+enum { OPEN, SUBMIT, CLOSE, COUNT, INTERPRET, CHECK, FRESH, ENTRIES };
+
+static const char *const NAMES[] = {"open", "submit", "close", "count", "interpret", "check", "fresh"};
+
+static lend table, records, area, widths, part;
+static enum side guarded;
+static int around_changes, within_changes, answer_changes; /* wrong on purpose */
+
+/* What was lent, as it must be after the call. */
+static halviruso_entry old_table[MOST_ENTRIES];
+static unsigned char old_records[MOST_RECORDS], old_area[MOST_AREA], old_part[LONGEST];
+static uint16_t old_widths[MOST_WIDTHS];
+
+static size_t entries, width_count, part_bytes;
+
+unsigned long calls_made;
+static int entry;
+static volatile sig_atomic_t inside; /* 1 while the library is at work */
+static unsigned long met[ENTRIES][30];
+
+static void expect(int holds, const char *what) {
+    if (!holds) {
+        printf("call %lu, %s: %s\n", calls_made, NAMES[entry], what);
+        exit(1);
+    }
+}
+
+static void on_fault(int number) {
+    char line[120];
+    const char *where = inside ? "the library" : "the harness";
+    int size = snprintf(line, sizeof line, "call %lu, %s: fault in %s, signal %d\n", calls_made, NAMES[entry], where, number);
+    _exit(write(1, line, (size_t)size) == size && inside ? 3 : 4);
+}
+
+void tries_start(enum side side, const char *wrong) {
+    static const char *const called[] = {"table", "records", "area", "widths", "part"};
+    static const size_t most[] = {sizeof old_table, sizeof old_records, sizeof old_area, sizeof old_widths, sizeof old_part};
+    lend *const slices[] = {&table, &records, &area, &widths, &part};
+    guarded = side;
+    for (size_t which = 0; which < 5; which++) {
+        *slices[which] = lend_new(most[which], which > 2);
+        slices[which]->overdrawn = strcmp(wrong, called[which]) == 0;
+        lend_place(slices[which], 0, side);
+    }
+    around_changes = strcmp(wrong, "around") == 0;
+    within_changes = strcmp(wrong, "within") == 0;
+    answer_changes = strcmp(wrong, "answer") == 0;
+    signal(SIGSEGV, on_fault);
+    signal(SIGBUS, on_fault);
+}
+
+/* An empty slice may be anywhere, and nowhere. */
+static void *at(const lend *l) {
+    return l->size == 0 && calls_made % 2 == 0 ? NULL : l->at;
+}
+
+static void lend_table(void) {
+    entries = length_near(HALVIRUSO_SLOTS);
+    for (size_t slot = 0; slot < entries; slot++)
+        old_table[slot] = an_entry();
+    lend_place(&table, entries * ENTRY, guarded);
+    lend_put(&table, old_table);
+}
+
+/* Record bytes; most calls get those that the one before has left. */
+static void lend_records(lend *l, unsigned char *old, size_t right) {
+    if (l->size == right && !once_in(12))
+        return;
+    lend_place(l, length_near(right), guarded);
+    memset(old, (int)below(256), l->size);
+    lend_put(l, old);
+}
+
+static void lend_widths(void) {
+    static const uint32_t WIDEST[] = {1, 1, 30, 30, 300, 65536};
+    uint32_t widest = PICK(WIDEST);
+    if (width_count == HALVIRUSO_WIDTHS && !once_in(4))
+        return;
+    width_count = length_near(HALVIRUSO_WIDTHS);
+    for (size_t place = 0; place < width_count; place++)
+        old_widths[place] = (uint16_t)below(widest);
+    lend_place(&widths, 2 * width_count, guarded);
+    lend_put(&widths, old_widths);
+}
+
+static void lend_part(int chained) {
+    part_bytes = a_part(old_part, chained);
+    lend_place(&part, part_bytes, guarded);
+    lend_put(&part, old_part);
+}
+
+#define BITS(from, to) (((2u << ((to) - (from))) - 1) << (from))
+
+/* The code is one of the entry's, and the two numbers are those that go with it. */
+static void expect_answer(halviruso_answer a, uint32_t codes) {
+    a.code += (uint32_t)answer_changes;
+    expect(a.code < 30 && (codes >> a.code & 1), "a code that isn't the entry's");
+    expect(a.code == 0 || a.second == 0, "a second number with a refusal");
+    expect(a.code == 0 || a.code >= 20 || a.first == 0, "a first number without an element");
+    expect(a.code < 20 || a.first < part_bytes, "an element beyond the part");
+    met[entry][a.code]++;
+}
+
+/* This entry of the table may be another now. */
+static void allow_entry(size_t slot) {
+    memcpy(&old_table[slot], table.at + slot * ENTRY, ENTRY);
+}
+
+/* These record bytes may be others now. */
+static void allow_records(const lend *l, unsigned char *old, size_t from, size_t added) {
+    memcpy(old + from, l->at + from, added);
+}
+
+/* Nothing else of what was lent changed, nor the bytes around it. */
+static void expect_kept(const lend *l, const void *old) {
+    if (around_changes)
+        l->own[guarded == RIGHT ? 0 : l->most - 1] ^= 1;
+    if (within_changes && l->size > 0)
+        l->own[l->at - l->span] ^= 1;
+    expect(lend_kept(l), "a byte that wasn't lent changed");
+    expect(lend_holds(l, old), "something lent changed that shouldn't");
+}
+
+static uint32_t a_slot(void) {
+    return once_in(12) ? any() : below(17);
+}
+
+static uint32_t key_of(uint32_t slot) {
+    return slot < entries && !once_in(6) ? old_table[slot].key : below(6);
+}
+
+static void try_open(void) {
+    lend_table();
+    uint32_t slot = a_slot(), key = key_of(slot) + below(3);
+    halviruso_descriptor d = a_descriptor();
+    inside = 1;
+    halviruso_answer a = halviruso_open(at(&table), entries, slot, key, d);
+    inside = 0;
+    expect_answer(a, BITS(0, 1) | BITS(10, 15));
+    if (a.code == 0) {
+        allow_entry(slot);
+        expect(old_table[slot].key == key && old_table[slot].mark == 1 && old_table[slot].next == 1, "what was opened isn't open");
+    }
+    expect_kept(&table, old_table);
+}
+
+static void try_submit(void) {
+    lend_table();
+    uint32_t slot = a_slot(), key = key_of(slot);
+    halviruso_entry e = slot < entries ? old_table[slot] : (halviruso_entry){0};
+    uint32_t number = once_in(8) ? any() : e.next + (once_in(8) ? below(3) - 1 : 0);
+    lend_records(&records, old_records, HALVIRUSO_RECORDS);
+    lend_widths();
+    lend_part(e.state.chain == 1);
+    inside = 1;
+    halviruso_answer a =
+        halviruso_submit(at(&table), entries, at(&records), records.size, at(&widths), width_count, slot, key, number, at(&part), part_bytes);
+    inside = 0;
+    expect_answer(a, BITS(0, 1) | BITS(10, 12) | BITS(16, 29));
+    if (a.code == 0) {
+        expect(e.state.used + a.second <= HALVIRUSO_AREA, "records beyond the slot's area");
+        allow_entry(slot);
+        allow_records(&records, old_records, (size_t)slot * HALVIRUSO_AREA + e.state.used, a.second);
+        expect(old_table[slot].next == e.next + 1 && old_table[slot].state.used == e.state.used + a.second, "the entry doesn't say what was added");
+    }
+    expect_kept(&table, old_table);
+    expect_kept(&records, old_records);
+}
+
+static void try_close(void) {
+    lend_table();
+    uint32_t slot = a_slot(), key = key_of(slot);
+    inside = 1;
+    halviruso_answer a = halviruso_close(at(&table), entries, slot, key);
+    inside = 0;
+    expect_answer(a, BITS(0, 1) | BITS(10, 12) | BITS(16, 16));
+    if (a.code == 0)
+        old_table[slot].mark = 0;
+    expect_kept(&table, old_table);
+}
+
+static void try_count(void) {
+    lend_table();
+    inside = 1;
+    uint32_t count = halviruso_count(at(&table), entries);
+    inside = 0;
+    uint32_t open = 0;
+    for (size_t slot = 0; slot < entries && entries == HALVIRUSO_SLOTS; slot++)
+        open += old_table[slot].mark != 0;
+    expect(count == open, "a wrong count");
+    met[COUNT][0]++;
+    expect_kept(&table, old_table);
+}
+
+static void try_interpret(void) {
+    halviruso_descriptor d = a_descriptor();
+    halviruso_state s = a_state(&d);
+    lend_records(&area, old_area, HALVIRUSO_AREA);
+    lend_widths();
+    lend_part(s.chain == 1);
+    inside = 1;
+    halviruso_interpreted r = halviruso_interpret(at(&part), part_bytes, at(&widths), width_count, at(&area), area.size, d, s);
+    inside = 0;
+    expect_answer(r.answer, BITS(0, 0) | BITS(10, 10) | BITS(12, 12) | BITS(15, 15) | BITS(19, 29));
+    if (r.answer.code == 0) {
+        expect(r.state.used == s.used + r.answer.second && r.state.used <= HALVIRUSO_AREA, "the state doesn't say what was added");
+        allow_records(&area, old_area, s.used, r.answer.second);
+    } else {
+        expect(memcmp(&r.state, &s, sizeof s) == 0, "a refusal with another state");
+    }
+    expect_kept(&area, old_area);
+}
+
+static void try_check(void) {
+    lend_part(0);
+    inside = 1;
+    uint32_t code = halviruso_check(at(&part), part_bytes);
+    inside = 0;
+    expect(code < 30 && ((BITS(0, 0) | BITS(19, 29)) >> code & 1), "a code that isn't the entry's");
+    expect(code < 20 || part_bytes > 0, "an element at fault in an empty part");
+    met[CHECK][code]++;
+}
+
+static void try_fresh(void) {
+    inside = 1;
+    halviruso_table t = halviruso_fresh();
+    inside = 0;
+    for (size_t slot = 0; slot < HALVIRUSO_SLOTS; slot++)
+        expect(t.entries[slot].key == 0 && t.entries[slot].mark == 0, "a fresh entry that isn't");
+    met[FRESH][0]++;
+}
+
+void try_one(void) {
+    static void (*const TRIES[])(void) = {try_open, try_submit, try_close, try_count, try_interpret, try_check, try_fresh};
+    static const unsigned char TURNS[] = {OPEN, SUBMIT, SUBMIT, SUBMIT, SUBMIT, CLOSE, COUNT, INTERPRET, INTERPRET, INTERPRET, INTERPRET, CHECK, CHECK};
+    entry = once_in(50) ? FRESH : PICK(TURNS);
+    TRIES[entry]();
+    calls_made++;
+}
+
+void tries_report(void) {
+    for (size_t which = 0; which < ENTRIES; which++) {
+        printf("  %-9s", NAMES[which]);
+        for (size_t code = 0; code < 30; code++)
+            if (met[which][code] > 0)
+                printf(" %zu:%lu", code, met[which][code]);
+        printf("\n");
+    }
+}

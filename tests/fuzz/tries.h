@@ -1,0 +1,20 @@
+/* One call of each entry over guarded memory, and what must hold after it. */
+#ifndef TRIES_H
+#define TRIES_H
+
+#include "lend.h"
+
+/* Makes the slices. What is named is wrong on purpose: a slice (table, records, area, widths, part) claims a byte that it doesn't have; or, as if the
+ * library had done it, a byte changes around what is lent (around) or within it (within), or an answer is another (answer). */
+void tries_start(enum side side, const char *wrong);
+
+/* One call of some entry; leaves with status 1 if something doesn't hold. */
+void try_one(void);
+
+/* Calls so far. */
+extern unsigned long calls_made;
+
+/* What was called how often, with which answers. */
+void tries_report(void);
+
+#endif
