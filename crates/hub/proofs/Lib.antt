@@ -7,6 +7,7 @@ pub mod Leaving
 pub mod Ranging
 pub mod Growing
 pub mod Holding
+pub mod Printing
 pub mod Rising
 pub mod Repeating
 pub mod Contracts

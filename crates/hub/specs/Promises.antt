@@ -1,13 +1,13 @@
--- "What the promises have to say": four promises over the rules of `Requests`, each as one type. Their proofs: Swapping, Holding, Repeating, Leaving.
-use Prim.Native.Nat.{ℕ, _+_, _*_, _≤_, _<_}
+-- "What the promises have to say": five promises over the rules of `Requests`, each as one type. Their proofs: Swapping, Holding, Printing, Repeating, Leaving.
+use Prim.Native.Nat.{ℕ, zero, suc, _+_, _*_, _≤_, _<_}
 use mathlib.Core.Path.{_≡_}
-use mathlib.Core.Bool.{false, _&&_}
-use mathlib.Core.List.{List, _∷_, _++_, map}
-use lib.ListN.{length, take, getD}
+use mathlib.Core.Bool.{true, false, _&&_}
+use mathlib.Core.List.{List, [], _∷_, _++_, map}
+use lib.ListN.{length, take, drop, getD}
 use lib.Dec.{ltb, eqb}
 use Rattle.part.specs.Numbers.{if_then_else_}
 use Rattle.part.specs.Checks.{fine}
-use Rattle.part.specs.Records.{allBytes}
+use Rattle.part.specs.Records.{allBytes, littleAt, isWhole, boundaries}
 use Rattle.part.specs.Place.{Effect}
 use Rattle.hub.specs.Entries.{entry, isOpen, isOpenUnder, damaged, goneOn, closed}
 use Rattle.hub.specs.Requests.{areaOf, refusal, Hub, Request, Open, Submit, Close, slotOf, step, steps}
@@ -53,6 +53,24 @@ abbrev pub Holds : Type 0
 Holds = (widths : List ℕ) (h : Hub) → Fresh h → (rs : List Request) (slot : ℕ) →
     let now = steps widths h rs in
     Agrees widths (account widths slot h idle rs) (entryOf now slot) (areaOf (now .records) slot) × (damaged (entryOf now slot) ≡ false)
+
+-- ---- PRINTS: printers draw from the areas and check nothing. In such a history the bytes up to `used` of an open job's area are whole records,
+-- one behind the other, and nothing else: stepping over them from the start meets the end.
+
+-- so many whole records, and nothing behind them
+abbrev pub WholeRecords : ℕ → List ℕ → Type 0
+WholeRecords zero bytes = bytes ≡ []
+WholeRecords (suc others) bytes = (isWhole bytes ≡ true) × WholeRecords others (drop (littleAt bytes 0) bytes)
+
+pub record Printable (bytes : List ℕ) : Type 0 where
+  pub count : ℕ
+  pub records : WholeRecords count bytes
+  pub met : length (boundaries bytes) ≡ count + 1
+
+abbrev pub Prints : Type 0
+Prints = (widths : List ℕ) (h : Hub) → Fresh h → (rs : List Request) (slot : ℕ) →
+    let now = steps widths h rs in
+    isOpen (entryOf now slot) ≡ true → Printable (take (entryOf now slot .state .used) (areaOf (now .records) slot))
 
 -- ---- REPEAT (demand 3): a request that was once accepted in such a history, sent again at any later time, also after its slot was closed
 -- and opened under a new key. It changes no byte and no entry. Its answer goes by the slot's entry at that time.

@@ -1,13 +1,11 @@
 -- The listing by the part's answer; and that it has room: lines are short, and the bytes used are within the area.
 -- Assumes nothing.
 use Prim.Native.Nat.{ℕ, _+_, _*_, _≤_}
-use mathlib.Core.Path.{_≡_, refl, _∙_, ap, sym}
-use mathlib.Core.Bool.{true, false}
-use mathlib.Core.List.{List, [], _∷_, _++_, append-assoc}
+use mathlib.Core.Path.{_≡_, _∙_, ap, sym}
+use mathlib.Core.List.{List, _++_, append-assoc}
 use native.Mathlib.Omega.{arith}
 use borrow.Author.Tests.{eq-eqb, ne-eqb}
 use lib.ListN.{length, length-append, take, replicate, length-replicate}
-use lib.Dec.{eqb}
 use lib.Seq.{take-all}
 use Rattle.part.specs.Part.{interpreted, areaAfter}
 use Rattle.part.specs.Sheets.{descriptor, fresh}

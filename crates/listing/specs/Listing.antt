@@ -2,7 +2,7 @@
 use Prim.Native.Nat.{ℕ, zero, suc, _+_}
 use mathlib.Core.Path.{_≡_, refl}
 use mathlib.Core.List.{List, [], _∷_, _++_}
-use mathlib.Core.Bool.{Bool, true, false}
+use mathlib.Core.Bool.{true, false}
 use lib.ListN.{length, take, drop, replicate}
 use lib.Dec.{ltb, eqb}
 use Rattle.part.specs.Numbers.{if_then_else_, origin}
@@ -16,7 +16,7 @@ use Rattle.part.specs.Text.{character, characters as charactersAlong, cycle}
 use Rattle.part.specs.Place.{placeText, placeRule, place}
 use Rattle.part.specs.Sheets.{descriptor, fresh, hex as bytes}
 use Rattle.part.specs.declared.shapes.Interpreted.{Interpreted}
-use Rattle.listing.specs.Lines.{newline, digits, middle, each, numbers, line, characters}
+use Rattle.listing.specs.Lines.{digits, middle, each, numbers, line, characters}
 
 -- ---- the words, in ASCII
 
