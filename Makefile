@@ -52,8 +52,11 @@ soak: replay
 	@cargo build --quiet --offline --release --target-dir build/cargo --manifest-path tests/compare/Cargo.toml
 	@build/cargo/release/compare --seconds $(SECONDS) $(if $(SEED),--seed $(SEED))
 
-# times beside the second implementation's and plain C's; x86-64 machines only
-bench: lib
+# times beside the second implementation's and plain C's; where the archive can't run, of the library compiled for this processor
+HERE = $(if $(filter x86_64,$(shell uname -m)),,build/here/libhalviruso.a)
+build/here/libhalviruso.a: build/libhalviruso.a bench/here bench/here.py
+	bench/here
+bench: lib $(HERE)
 	@cargo build --quiet --offline --release --target-dir build/cargo --manifest-path bench/Cargo.toml
 	@build/cargo/release/bench $(BENCH)
 
@@ -71,7 +74,7 @@ help:
 	@echo 'make page PART=file     build/page.svg, the sheet of a part'
 	@echo 'make replay             build/replay, which runs scripts of requests: tests/compare/retry.replay is one'
 	@echo 'make soak SECONDS=n     compares library and second implementation for n seconds from a new seed'
-	@echo 'make bench              times beside the second implementation and plain C, on x86-64'
+	@echo 'make bench              times beside the second implementation and plain C'
 	@echo 'make elements PART=file the elements of a part'
 
 clean:

@@ -19,10 +19,16 @@ fn main() {
     println!("cargo:rustc-link-lib=static=plain");
     println!("cargo:rerun-if-changed=plain.c");
     println!("cargo:rerun-if-changed=../include/halviruso.h");
-    if env::var("CARGO_CFG_TARGET_ARCH").as_deref() == Ok("x86_64") {
-        let build = concat!(env!("CARGO_MANIFEST_DIR"), "/../build");
-        println!("cargo:rustc-link-search=native={build}");
+    println!("cargo:rustc-check-cfg=cfg(linked)");
+    // the archive is x86-64 code; bench/here leaves the same library for another processor
+    let build = Path::new(env!("CARGO_MANIFEST_DIR")).join("../build");
+    let x86_64 = env::var("CARGO_CFG_TARGET_ARCH").as_deref() == Ok("x86_64");
+    let folder = if x86_64 { build } else { build.join("here") };
+    let archive = folder.join("libhalviruso.a");
+    println!("cargo:rerun-if-changed={}", archive.display());
+    if archive.exists() {
+        println!("cargo:rustc-cfg=linked");
+        println!("cargo:rustc-link-search=native={}", folder.display());
         println!("cargo:rustc-link-lib=static=halviruso");
-        println!("cargo:rerun-if-changed={build}/libhalviruso.a");
     }
 }

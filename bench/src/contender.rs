@@ -19,8 +19,8 @@ pub const PLAIN: Contender = Contender { name: "C", interpret: foreign::plain };
 /// The peer.
 pub const PEER: Contender = Contender { name: "peer", interpret };
 
-/// The proved library, on a machine that runs it.
-#[cfg(target_arch = "x86_64")]
+/// The proved library, where it is linked.
+#[cfg(linked)]
 pub fn proved() -> Option<Contender> {
     use peer::replay::Backend;
     let ask: Interpret =
@@ -28,8 +28,8 @@ pub fn proved() -> Option<Contender> {
     Some(Contender { name: "proved", interpret: ask })
 }
 
-/// Its machine code is x86-64: elsewhere only an emulator could run it, whose time says nothing.
-#[cfg(not(target_arch = "x86_64"))]
+/// Under an emulator its time would say nothing.
+#[cfg(not(linked))]
 pub fn proved() -> Option<Contender> {
     None
 }

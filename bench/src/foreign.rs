@@ -1,4 +1,4 @@
-//! What is linked from C: the plain interpreting, and on x86-64 the proved library. The one place that declares either.
+//! What is linked from C: the plain interpreting, and the proved library where it was made for this machine. The one place that declares either.
 
 use peer::{Answer, Descriptor, State};
 
@@ -48,10 +48,10 @@ pub fn plain(
     answer
 }
 
-#[cfg(target_arch = "x86_64")]
+#[cfg(linked)]
 pub use linked::Proved;
 
-#[cfg(target_arch = "x86_64")]
+#[cfg(linked)]
 mod linked {
     use peer::hub::Lent;
     use peer::model::SLOTS;

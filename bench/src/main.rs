@@ -61,9 +61,7 @@ fn main() -> ExitCode {
             "not measured: the proved library is x86-64 code, and this machine is {}.",
             env::consts::ARCH
         );
-        println!(
-            "Under an emulator its time says nothing. --others times the peer and plain C alone."
-        );
+        println!("bench/here compiles it for this one. --others times the peer and plain C alone.");
         return ExitCode::FAILURE;
     }
     ended(bench(&options))
@@ -180,23 +178,23 @@ fn interpreted(contenders: &[Contender], workloads: &[Workload], effort: Effort)
     table
 }
 
-#[cfg(target_arch = "x86_64")]
+#[cfg(linked)]
 fn hub_run(history: &History) -> Option<Run<'_>> {
     Some(asking(foreign::Proved, history))
 }
 
-#[cfg(not(target_arch = "x86_64"))]
+#[cfg(not(linked))]
 fn hub_run(_: &History) -> Option<Run<'_>> {
     None
 }
 
-#[cfg(target_arch = "x86_64")]
+#[cfg(linked)]
 fn hub_says_the_same(history: &History) -> bool {
     told(foreign::Proved, history) == told(Peer, history)
 }
 
 /// Without the library only that the peer takes every request.
-#[cfg(not(target_arch = "x86_64"))]
+#[cfg(not(linked))]
 fn hub_says_the_same(history: &History) -> bool {
     told(Peer, history).0.iter().all(|&code| code <= 1)
 }
