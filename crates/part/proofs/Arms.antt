@@ -3,6 +3,7 @@
 use Prim.Native.Nat.{ℕ, zero, suc, _+_, _≤_}
 use mathlib.Core.Path.{_≡_, refl, sym}
 use mathlib.Core.Bool.{Bool, true, false, _&&_}
+use mathlib.Core.Logic.{_⊎_, inl, inr}
 use mathlib.Core.List.{List}
 use native.Mathlib.Nat.{sub-zero}
 use native.Mathlib.Omega.{arith}
@@ -146,9 +147,14 @@ module _ (widths : List ℕ) (d : Descriptor) (w p : List ℕ) (twelve : length 
 
   -- ---- rules and text
 
-  pub arm-rule : (mark : ℕ) → (rule mark p >>= placed widths d (stateOf w)) ≡ ruled d (stateOf w) mark p
+  arm-rule : (mark : ℕ) → (rule mark p >>= placed widths d (stateOf w)) ≡ ruled d (stateOf w) mark p
   unfolding placed place
   arm-rule mark = under (word 0 p 0 ∈ upTo 0x7FFF && ruleWidth (word 0xFF p 2) (byte 0xFF p 4)) 24 _ _ _ (λ t. refl)
+
+  pub arm-rules : (code mark : ℕ) → (code ≡ 0xE4) ⊎ (code ≡ 0xE6) → mark ≡ (if eqb code 0xE6 then 1 else 0) → performed widths d (stateOf w) code p ≡ ruled d (stateOf w) mark p
+  unfolding types
+  arm-rules code mark (inl e) m = rw (m, e) (arm-rule 0)
+  arm-rules code mark (inr e) m = rw (m, e) (arm-rule 1)
 
   pub arm-RPS : performed widths d (stateOf w) 0xEE p ≡ repeating widths d (stateOf w) p
   unfolding types placed place

@@ -13,6 +13,7 @@ pub mod Fits
 pub mod Inks
 pub mod Kept
 pub mod Lines
+pub mod Masks
 pub mod Outcomes
 pub mod Parts
 pub mod Places

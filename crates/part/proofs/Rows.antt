@@ -1,18 +1,18 @@
 -- What the LENGTHs of a type tell of a sequence: no row of the table has 0 as its greatest LENGTH, so that 0 says that the type is unknown.
 -- Assumes nothing.
-use Prim.Native.Nat.{ℕ, _+_, _≤_}
-use mathlib.Core.Path.{_≡_, refl, sym}
+use Prim.Native.Nat.{ℕ, zero, suc, _+_, _/_, _%_, _≤_}
+use mathlib.Core.Path.{_≡_, refl, sym, _∙_, ap}
 use mathlib.Core.Bool.{Bool, true, false, _||_, true≢false}
 use mathlib.Core.List.{List, [], _∷_}
+use native.Mathlib.Omega.{arith}
 use lib.ListN.{length, getD}
 use lib.Dec.{leb, eqb}
-use borrow.Author.Tests.{le-leb, ne-eqb}
+use borrow.Author.Tests.{le-leb, leb-true, ne-eqb}
 use Rattle.part.specs.Numbers.{if_then_else_}
 use Rattle.part.specs.Checks.{Checked, fine, fault, refuse, require, _>>=_, _>>_}
 use Rattle.part.specs.Types.{function, chaining, Row, types, rowOf, valuesOf, _takes_}
-use Rattle.part.specs.Reading.{found, between, sequence}
-use Rattle.part.specs.Code.{lengthsIn, lengthsOf}
-use Rattle.part.specs.declared.types.Lengths.{Lengths}
+use Rattle.part.specs.Reading.{Found, found, between, sequence}
+use Rattle.part.specs.Code.{verdict, lengthsIn, lengthsOf, fitting}
 
 abbrev zeroIn : List Row → Bool
 zeroIn [] = false
@@ -28,29 +28,74 @@ none (r ∷ rs) code z h =
     neither true b e = absurd (true≢false e)
     neither false b e = e
 
-unknown : (code : ℕ) → lengthsOf code .greatest ≡ 0 → rowOf types code ≡ refuse 23
+pub unknown : (code : ℕ) → lengthsOf code .greatest ≡ 0 → rowOf types code ≡ refuse 23
 unfolding types
 unknown code h = none types code refl h
 
-known : (m : Checked Row) → (lengthsIn m .greatest ≡ 0 → ⊥) → (r : Row) × (m ≡ fine r)
+pub known : (m : Checked Row) → (lengthsIn m .greatest ≡ 0 → ⊥) → (r : Row) × (m ≡ fine r)
 known (fine r) h = (r, refl)
 known (fault code at) h = absurd (h refl)
 
--- a sequence whose LENGTH and TYPE are there
-module _ (at : ℕ) (bytes : List ℕ) (began : at + 2 ≤ length bytes) (counts : 2 ≤ getD bytes at 0) {ns : Lengths} (e : ns ≡ lengthsOf (function (getD bytes (at + 1) 0))) where
-  pub untyped : ns .greatest ≡ 0 → sequence at bytes ≡ refuse 23
-  unfolding sequence
-  untyped h = rw (le-leb _ _ began, le-leb _ _ counts, unknown (function (getD bytes (at + 1) 0)) (rw e at h))
+-- ---- a sequence whose LENGTH and TYPE are there, by their tests
 
-  pub typed : {t : Bool} → (ns .greatest ≡ 0 → ⊥) → t ≡ (ns takes getD bytes at 0) → sequence at bytes ≡ do
-    require t 22
-    require (leb (at + getD bytes at 0) (length bytes)) 20
-    v ← valuesOf (function (getD bytes (at + 1) 0)) (between bytes (at + 2) (at + getD bytes at 0))
-    found v (at + getD bytes at 0) (chaining (getD bytes (at + 1) 0))
+module _ (q : Row → Bool) (rest : Row → Checked Found) where
+  abbrev tests : Bool → Checked Row → Checked Unit
+  tests t m = require t 22 >> (m >>= λ r. require (q r) 22)
+
+  abbrev whole : Bool → Checked Row → Checked Found
+  whole t m = require t 22 >> (m >>= λ r. require (q r) 22 >> rest r)
+
+  stops : (t : Bool) (m : Checked Row) (code j : ℕ) → fault code j ≡ tests t m → fault code j ≡ whole t m
+  stops false m code j e = cc
+  stops true (fault c k) code j e = cc
+  stops true (fine r) code j e = stop (q r) e
+    where
+      stop : (t : Bool) → fault code j ≡ require t 22 → fault code j ≡ (require t 22 >> rest r)
+      stop true s = absurd (let z : _≡_ {A = ℕ} 0 1 = cc in omega arith)
+      stop false s = cc
+
+  goes : (t : Bool) (m : Checked Row) → fine tt ≡ tests t m → (r : Row) × (m ≡ fine r) × (whole t m ≡ rest r)
+  goes false m e = absurd (let z : _≡_ {A = ℕ} 0 1 = cc in omega arith)
+  goes true (fault c k) e = absurd (let z : _≡_ {A = ℕ} 0 1 = cc in omega arith)
+  goes true (fine r) e = (r, refl, go (q r) e)
+    where
+      go : (t : Bool) → fine tt ≡ require t 22 → (require t 22 >> rest r) ≡ rest r
+      go true s = refl
+      go false s = absurd (let z : _≡_ {A = ℕ} 0 1 = cc in omega arith)
+
+module _ (at : ℕ) (bytes : List ℕ) (began : at + 2 ≤ length bytes) where
+  abbrev n : ℕ
+  n = getD bytes at 0
+
+  abbrev type : ℕ
+  type = getD bytes (at + 1) 0
+
+  abbrev rest : Row → Checked Found
+  rest r = do
+    require (leb (at + n) (length bytes)) 20
+    v ← r .values (between bytes (at + 2) (at + n))
+    found v (at + n) (chaining type)
+
+  pub misfitted : (k : ℕ) (x : Found) → (k ≡ 0 → ⊥) → verdict k tt ≡ fitting (function type) n → verdict k x ≡ sequence at bytes
   unfolding sequence
-  typed h g =
-      let k = known (rowOf types (function (getD bytes (at + 1) 0))) (rw e at h) in
-      rw (g, e, le-leb _ _ began, le-leb _ _ counts, k .1)
+  misfitted zero x h e = absurd (h refl)
+  misfitted (suc k) x h e = rw (le-leb (at + 2) (length bytes) began) (stops (λ r. r .lengths takes n) rest (leb 2 n) (rowOf types (function type)) (suc k % 256) (suc k / 256) e)
+
+  -- LENGTH counts itself and TYPE
+  pub counted : (k : ℕ) → k ≡ 0 → verdict k tt ≡ fitting (function type) n → 2 ≤ n
+  counted k z e =
+      (elim (leb 2 n) as (λ t. leb 2 n ≡ t → 2 ≤ n)
+      [ true ↦ leb-true 2 n | false ↦ λ s. let short : fine tt ≡ fault 22 0 = rw (z, s) at e in absurd (let z : _≡_ {A = ℕ} 0 1 = cc in omega arith) ]) refl
+
+  pub fitted : (k : ℕ) → k ≡ 0 → verdict k tt ≡ fitting (function type) n → sequence at bytes ≡ do
+    require (leb (at + n) (length bytes)) 20
+    v ← valuesOf (function type) (between bytes (at + 2) (at + n))
+    found v (at + n) (chaining type)
+  unfolding sequence
+  fitted k z e =
+      let g = goes (λ r. r .lengths takes n) rest (leb 2 n) (rowOf types (function type)) (rw z at e) in
+      rw (le-leb (at + 2) (length bytes) began)
+      (g .2 ∙ ap (λ (m : Checked Row). require (leb (at + n) (length bytes)) 20 >> ((m >>= λ r. r .values (between bytes (at + 2) (at + n))) >>= λ v. found v (at + n) (chaining type))) (sym (g .1)))
 
 -- ---- a type of no row
 

@@ -1,5 +1,5 @@
 -- How the code's numbers stand for the rule book's values: what the contracts inside this crate cite, and no rule.
-use Prim.Native.Nat.{ℕ, zero, suc, _+_, _*_, _/_, _%_, _<_, _≤_}
+use Prim.Native.Nat.{ℕ, zero, suc, _+_, _*_, _/_, _%_, _^_, _<_, _≤_}
 use mathlib.Core.Path.{_≡_}
 use mathlib.Core.Bool.{Bool, true, not, _&&_, _||_}
 use mathlib.Core.List.{List, [], _∷_, _++_}
@@ -11,7 +11,7 @@ use Rattle.part.specs.Checks.{Checked, fine, fault, require, _>>=_, _>>_
 use Rattle.part.specs.States.{point, state, withInline}
 use Rattle.part.specs.Ranges.{upTo, _∈_, hold, descriptorFields, stateFields}
 use Rattle.part.specs.Elements.{Text, ruleWidth}
-use Rattle.part.specs.Types.{Row, types, rowOf, valuesOf, all}
+use Rattle.part.specs.Types.{Row, types, rowOf, valuesOf, all, _takes_}
 use Rattle.part.specs.Reading.{Found, found, between}
 use Rattle.part.specs.Records.{Item, allBytes}
 use Rattle.part.specs.Presenting.{default, moved, hides}
@@ -45,16 +45,30 @@ lengthsIn (fault code at) = all 0 0
 abbrev pub lengthsOf : ℕ → Lengths
 lengthsOf code = lengthsIn (rowOf types code)
 
--- the code's table: for each even TYPE its four LENGTHs, a byte each, in one number
-abbrev pub packed : Lengths → ℕ
-packed ns = ns .least + ns .greatest * 256 + ns .holefrom * 65536 + ns .holeto * 16777216
+-- a row of the code's table: a bit for each LENGTH up to 7 that a type takes, and the bit of 8 for all above
+abbrev pub bitOf : ℕ → ℕ → Bool
+bitOf row n = eqb (row / 2 ^ (if ltb n 8 then n else 8) % 2) 1
+
+abbrev pub maskUpTo : ℕ → Lengths → ℕ
+maskUpTo zero ns = 0
+maskUpTo (suc k) ns = maskUpTo k ns + (if ns takes k then 2 ^ k else 0)
+
+abbrev pub maskOf : Lengths → ℕ
+maskOf ns = maskUpTo 9 ns
 
 abbrev pub listed : {A : Type 0} → (ℕ → A) → ℕ → List A
 listed rule zero = []
 listed rule (suc n) = rule 0 ∷ listed (λ k. rule (suc k)) n
 
 unfoldable pub rows : List ℕ
-rows = listed (λ half. packed (lengthsOf (half * 2))) 128
+rows = listed (λ half. maskOf (lengthsOf (half * 2))) 128
+
+-- the three tests of a TYPE and its LENGTH, in their order
+abbrev pub fitting : ℕ → ℕ → Checked Unit
+fitting code n = do
+  require (leb 2 n) 22
+  row ← rowOf types code
+  require (row .lengths takes n) 22
 
 -- ---- the element reader
 

@@ -1,7 +1,9 @@
 // A control sequence performed: its values tested, and its effect on the working state and the records.
 ghost use mathlib.Core.Path.{_≡_};
 ghost use Prim.Native.Nat.{_<_};
+ghost use lib.Dec.{eqb};
 ghost use lib.ListN.{length, getD};
+ghost use Rattle.part.specs.Numbers.{if_then_else_};
 ghost use Rattle.part.specs.Code.{verdict, stateOf, stateAfter, inked, repeating, performed, Ready};
 use super::moves::absolute_move;
 use super::moves::begin_line;
@@ -43,6 +45,13 @@ fn repeat_string(p: &[u8], widths: &[u16], area: &mut [u8], d: Descriptor, w: &m
     show_text(&p[2..], wide(count), widths, area, d, w)
 }
 
+// DIR has mark 0, DBR mark 1.
+fn mark_of(function: u8) -> u32
+    ensures { λ r. ⌜ r ≡ (if eqb function 0xE6 then 1 else 0) ⌝ }
+{
+    if function == 0xE6 { 1 } else { 0 }
+}
+
 // One sequence, by its function code, with the bytes of its parameters.
 pub fn perform(
     function: u8,
@@ -70,8 +79,7 @@ pub fn perform(
         0xF6 => orientation(p),
         0xF2 => begin_suppression(w, p),
         0xF4 => end_suppression(w, p),
-        0xE4 => draw_rule(0, p, area, d, w),
-        0xE6 => draw_rule(1, p, area, d, w),
+        0xE4 | 0xE6 => draw_rule(mark_of(function), p, area, d, w),
         0xDA => show_text(p, p.len(), widths, area, d, w),
         0xEE => repeat_string(p, widths, area, d, w),
         0xF8 => 0,

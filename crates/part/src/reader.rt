@@ -5,9 +5,8 @@ ghost use Prim.Native.Nat.{_+_, _≤_, _<_};
 ghost use lib.ListN.{length, drop};
 ghost use Rattle.part.specs.Reading.{stretch, sequence, element};
 ghost use Rattle.part.specs.Code.{rows, foundBy, Within};
-use super::types::lengths_of;
+use super::types::misfit;
 use super::types::split;
-use super::types::takes;
 
 // An element. All numbers count from its first byte.
 pub enum Read {
@@ -20,8 +19,8 @@ pub enum Read {
         size: usize,
         chains: u32,
     },
-    // A refusal: its code, and 256 for each byte past the first.
-    Refused(u32),
+    // A refusal: its code, and 256 for each byte past the first. Of no width that a sequence has, so that the back end keeps each in a register.
+    Refused(u16),
 }
 
 // Whether none of 16 bytes is X'2B'.
@@ -70,7 +69,7 @@ fn run_length(bytes: &[u8]) -> usize
 }
 
 // The sequence whose LENGTH and TYPE stand at `at`, behind the prefix or in a chain.
-fn read_sequence(types: &[u32; 128], bytes: &[u8], at: usize) -> Read
+fn read_sequence(types: &[u16; 128], bytes: &[u8], at: usize) -> Read
     requires { ⌜ (now types ≡ rows) × (at ≤ 2) ⌝ }
     ensures { λ r. ⌜ (foundBy (now (bytes .entry)) r ≡ sequence at (now (bytes .entry))) × Within (length (now (bytes .entry))) r ⌝ }
 {
@@ -79,22 +78,16 @@ fn read_sequence(types: &[u32; 128], bytes: &[u8], at: usize) -> Read
         return Read::Refused(20);
     }
     let n = bytes[at];
-    if n < 2 {
-        return Read::Refused(22);
-    }
     let second = bytes[at + 1];
-    let kind = split(second);
-    let known = lengths_of(types, second);
-    if known.greatest == 0 {
-        return Read::Refused(23);
-    }
-    if !takes(known, n) {
-        return Read::Refused(22);
+    let fault = misfit(types, second, n);
+    if fault != 0 {
+        return Read::Refused(fault);
     }
     let size = at + n as usize;
     if bytes.len() < size {
         return Read::Refused(20);
     }
+    let kind = split(second);
     let chains = kind.chains as u32;
     Read::Sequence {
         function: kind.function,
@@ -105,7 +98,7 @@ fn read_sequence(types: &[u32; 128], bytes: &[u8], at: usize) -> Read
 }
 
 // The element at the start of some bytes.
-pub fn read_element(types: &[u32; 128], bytes: &[u8], chain: u32) -> Read
+pub fn read_element(types: &[u16; 128], bytes: &[u8], chain: u32) -> Read
     requires { ⌜ (now types ≡ rows) × (0 < length (now bytes)) ⌝ }
     ensures { λ r. ⌜ (foundBy (now (bytes .entry)) r ≡ element chain (now (bytes .entry))) × Within (length (now (bytes .entry))) r ⌝ }
 {

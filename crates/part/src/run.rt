@@ -22,7 +22,7 @@ pub struct Outcome {
 }
 
 pub fn run(
-    types: &[u32; 128],
+    types: &[u16; 128],
     part: &[u8],
     widths: &[u16],
     area: &mut [u8],
@@ -39,7 +39,8 @@ pub fn run(
         let rest = &part[at..];
         let found = read_element(types, rest, w[CHAIN]);
         match found {
-            Read::Refused(fault) => {
+            Read::Refused(code) => {
+                let fault = code as u32;
                 return Outcome { fault, at, count };
             }
             Read::Run(size) => {

@@ -1,9 +1,12 @@
 // The table of types: for each TYPE, by its half, the LENGTHs that it takes.
 ghost use mathlib.Core.Path.{_≡_};
-ghost use Rattle.part.specs.Types.{function, chaining, _takes_};
-ghost use Rattle.part.specs.Code.{lengthsOf, rows};
+ghost use Prim.Native.Nat.{_≤_};
+ghost use lib.Dec.{ltb};
+ghost use Rattle.part.specs.Numbers.{if_then_else_};
+ghost use Rattle.part.specs.Types.{function, chaining};
+ghost use Rattle.part.specs.Code.{verdict, bitOf, rows, fitting};
 
-// The LENGTHs that a type takes: the least, the greatest, and the first and last of a hole between them. All 0: no type.
+// The LENGTHs that a type takes, as the rule book lists them: the least, the greatest, and the first and last of a hole between them.
 pub struct Lengths {
     pub least: u8,
     pub greatest: u8,
@@ -17,8 +20,11 @@ pub struct Kind {
     pub chains: u8,
 }
 
-// A row for each even TYPE from 00 to FE: its four LENGTHs, a byte each, the least last.
-pub const TYPES: [u32; 128] = [
+// DIR and DBR: LENGTH 4 or 7.
+const RULE: u16 = 0x90;
+
+// A row for each even TYPE from 00 to FE: a bit for each LENGTH up to 7 that it takes, and one for all above.
+pub const TYPES: [u16; 128] = [
     0,
     0,
     0,
@@ -78,7 +84,7 @@ pub const TYPES: [u32; 128] = [
     0,
     0,
     // 74: STC
-    0x0504,
+    0x30,
     0,
     0,
     0,
@@ -117,52 +123,52 @@ pub const TYPES: [u32; 128] = [
     0,
     0,
     // C0: SIM
-    0x0404,
+    0x10,
     // C2: SIA
-    0x0504,
+    0x30,
     // C4: SVI
-    0x0404,
+    0x10,
     // C6: AMI
-    0x0404,
+    0x10,
     // C8: RMI
-    0x0404,
+    0x10,
     0,
     0,
     0,
     // D0: SBI
-    0x0404,
+    0x10,
     // D2: AMB
-    0x0404,
+    0x10,
     // D4: RMB
-    0x0404,
+    0x10,
     0,
     // D8: BLN
-    0x0202,
+    0x4,
     // DA: TRN
-    0xFF02,
+    0x1FC,
     0,
     0,
     0,
     0,
     // E4: DIR
-    0x06050704,
+    RULE,
     // E6: DBR
-    0x06050704,
+    RULE,
     0,
     0,
     0,
     // EE: RPS
-    0xFF04,
+    0x1F0,
     // F0: SCFL
-    0x0303,
+    0x8,
     // F2: BSU
-    0x0303,
+    0x8,
     // F4: ESU
-    0x0303,
+    0x8,
     // F6: STO
-    0x0606,
+    0x40,
     // F8: NOP
-    0xFF02,
+    0x1FC,
     0,
     0,
     0,
@@ -178,33 +184,36 @@ pub fn split(byte: u8) -> Kind
     }
 }
 
-// The LENGTHs of a type. The table is lent, so that it is made once a part and not once a sequence.
-pub fn lengths_of(types: &[u32; 128], byte: u8) -> Lengths
+// The bit of a LENGTH.
+fn place_of(n: u8) -> u8
+    ensures { λ r. ⌜ (r ≡ (if ltb n 8 then n else 8)) × (r ≤ 8) ⌝ }
+{
+    if n < 8 { n } else { 8 }
+}
+
+// Whether a row has a LENGTH.
+fn has(row: u16, n: u8) -> bool
+    ensures { λ r. ⌜ r ≡ bitOf row n ⌝ }
+{
+    let k = place_of(n);
+    (row >> k) % 2 == 1
+}
+
+// A TYPE and its LENGTH: 0, or 22 or 23. One bit decides for those that fit. The table is lent, so that it is made once a part and not once a sequence.
+pub fn misfit(types: &[u16; 128], byte: u8, n: u8) -> u16
     requires { ⌜ now types ≡ rows ⌝ }
-    ensures { λ r. ⌜ r ≡ lengthsOf (function byte) ⌝ }
+    ensures { λ r. ⌜ verdict r tt ≡ fitting (function byte) n ⌝ }
 {
     let half = (byte / 2) as usize;
     let row = types[half];
-    Lengths {
-        least: (row % 256) as u8,
-        greatest: (row / 256 % 256) as u8,
-        holefrom: (row / 65536 % 256) as u8,
-        holeto: (row / 16777216 % 256) as u8,
+    if has(row, n) {
+        return 0;
     }
-}
-
-// Whether a type takes a LENGTH.
-pub fn takes(ns: Lengths, n: u8) -> bool
-    ensures { λ r. ⌜ r ≡ (ns takes n) ⌝ }
-{
-    if n < ns.least {
-        return false;
+    if n < 2 {
+        return 22;
     }
-    if ns.greatest < n {
-        return false;
+    if row == 0 {
+        return 23;
     }
-    if n < ns.holefrom {
-        return true;
-    }
-    ns.holeto < n
+    22
 }

@@ -29,12 +29,23 @@ pub fn byte_at(p: &[u8], at: usize, absent: u8) -> u32
     }
 }
 
-// Two bytes, the higher first.
+// A byte as a number of 32 bits.
+fn wide_byte(x: u8) -> u32
+    ensures { λ r. ⌜ (r ≡ x) × (r < 256) ⌝ }
+{
+    x as u32
+}
+
+// Two bytes, the higher first. One test for both, so that they are read as one.
 pub fn word_at(p: &[u8], at: usize, absent: u8) -> u32
     requires { ⌜ at < 256 ⌝ }
     ensures { λ r. ⌜ (r ≡ word absent (now (p .entry)) at) × (r < 65536) ⌝ }
 {
-    byte_at(p, at, absent) * 256 + byte_at(p, at + 1, absent)
+    let next = at + 1;
+    if next < p.len() {
+        return wide_byte(p[at]) * 256 + wide_byte(p[next]);
+    }
+    byte_at(p, at, absent) * 256 + wide_byte(absent)
 }
 
 // All ones mean the other value.

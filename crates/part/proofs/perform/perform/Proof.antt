@@ -1,6 +1,6 @@
 -- `part::perform::perform` meets its contract: a law for each type says what its sequence comes to.
 -- Assumes nothing.
-use Rattle.part.proofs.Arms.{plainly, arm-AMI, arm-AMB, arm-RMI, arm-RMB, arm-BLN, arm-SIM, arm-SBI, arm-SIA, arm-SVI, arm-SCFL, arm-STC, arm-STO, arm-BSU, arm-ESU, arm-rule, arm-TRN, arm-RPS}
+use Rattle.part.proofs.Arms.{plainly, arm-AMI, arm-AMB, arm-RMI, arm-RMB, arm-BLN, arm-SIM, arm-SBI, arm-SIA, arm-SVI, arm-SCFL, arm-STC, arm-STO, arm-BSU, arm-ESU, arm-rules, arm-TRN, arm-RPS}
 use Rattle.part.proofs.Rows.{no-row}
 use Rattle.part.specs.Code.{stateOf}
 use Rattle.part.specs.Part.{placed}
@@ -9,6 +9,7 @@ use Rattle.part.specs.Types.{types}
 use borrow.Author.Needs.{needs}
 use denote.Ref.{now}
 use lib.ListN.{getD}
+use mathlib.Core.Logic.{inl, inr}
 use mathlib.Core.Path.{refl}
 use Rattle.part.proofs.perform.perform.Statement.{statement}
 use Rattle.part.proofs.perform.perform.Tie as tie
@@ -55,11 +56,11 @@ begin-suppression-requires c κs = search needs
 end-suppression-requires : tie.Need-end-suppression-requires
 end-suppression-requires c κs = search needs
 
+mark-of-requires : tie.Need-mark-of-requires
+mark-of-requires c κs = search needs
+
 draw-rule-requires : tie.Need-draw-rule-requires
 draw-rule-requires c κs = search needs
-
-draw-rule-requires-2 : tie.Need-draw-rule-requires-2
-draw-rule-requires-2 c κs = search needs
 
 show-text-requires : tie.Need-show-text-requires
 show-text-requires c κs = search needs
@@ -253,14 +254,11 @@ same-length-15 : tie.Need-same-length-15
 same-length-15 c = search needs
 
 returns-15 : tie.Need-returns-15
-unfolding types
 returns-15 c =
-    let st = c .before .before .before .before .before .before .before .before .before .before .before .before in
+    let m = c .before .before .before .before .before .before .before in
+    let st = m .before .before .before .before .before .before in
     let a = st .args in
-    let w = now (a .w) in
-    let p = now (a .p) in
-    let widths = now (a .widths) in
-    rw (c .before .before .before .before .before .before .before .match .keys15, arm-rule widths (a .d) w p (st .pre .0 .twelve) 0) (c .before .before .before .before .draw-rule .ensures)
+    rw (arm-rules (now (a .widths)) (a .d) (now (a .w)) (now (a .p)) (st .pre .0 .twelve) (a .function) _ (m .before .match .keys15) (m .mark-of .ensures)) (c .before .before .before .before .draw-rule .ensures)
 
 same-length-16 : tie.Need-same-length-16
 same-length-16 c = search needs
@@ -269,14 +267,13 @@ same-length-17 : tie.Need-same-length-17
 same-length-17 c = search needs
 
 returns-16 : tie.Need-returns-16
-unfolding types
 returns-16 c =
     let st = c .before .before .before .before .before .before .before .before .before .before .before .before in
     let a = st .args in
     let w = now (a .w) in
     let p = now (a .p) in
     let widths = now (a .widths) in
-    rw (c .before .before .before .before .before .before .before .match .keys16, arm-rule widths (a .d) w p (st .pre .0 .twelve) 1) (c .before .before .before .before .draw-rule2 .ensures)
+    rw (c .before .before .before .before .before .before .before .match .keys16, arm-TRN widths (a .d) w p (st .pre .0 .twelve)) (c .before .before .before .before .show-text .ensures)
 
 same-length-18 : tie.Need-same-length-18
 same-length-18 c = search needs
@@ -291,36 +288,23 @@ returns-17 c =
     let w = now (a .w) in
     let p = now (a .p) in
     let widths = now (a .widths) in
-    rw (c .before .before .before .before .before .before .before .match .keys17, arm-TRN widths (a .d) w p (st .pre .0 .twelve)) (c .before .before .before .before .show-text .ensures)
-
-same-length-20 : tie.Need-same-length-20
-same-length-20 c = search needs
-
-same-length-21 : tie.Need-same-length-21
-same-length-21 c = search needs
+    rw (c .before .before .before .before .before .before .before .match .keys17, arm-RPS widths (a .d) w p (st .pre .0 .twelve)) (c .before .before .before .before .repeat-string .ensures)
 
 returns-18 : tie.Need-returns-18
-returns-18 c =
-    let st = c .before .before .before .before .before .before .before .before .before .before .before .before in
-    let a = st .args in
-    let w = now (a .w) in
-    let p = now (a .p) in
-    let widths = now (a .widths) in
-    rw (c .before .before .before .before .before .before .before .match .keys18, arm-RPS widths (a .d) w p (st .pre .0 .twelve)) (c .before .before .before .before .repeat-string .ensures)
-
-returns-19 : tie.Need-returns-19
 unfolding types placed place
-returns-19 c =
+returns-18 c =
     let st = c .before .before .before .before .before in
     let a = st .args in
     let w = now (a .w) in
     let p = now (a .p) in
     let widths = now (a .widths) in
-    rw (c .match .keys19) (refl, refl)
+    rw (c .match .keys18) (refl, refl)
 
-returns-20 : tie.Need-returns-20
+returns-19 : tie.Need-returns-19
 unfolding types
-returns-20 c = rw (no-row (c .before .before .before .before .before .args .function) (Unit {0}) types (c .match .rest)) (refl, refl)
+returns-19 c =
+    let r = c .match .rest in
+    rw (no-row (c .before .before .before .before .before .args .function) (Unit {0}) types (((((r .0 .0 .0 .0, λ e. r .0 .0 .0 .1 (inl e)), λ e. r .0 .0 .0 .1 (inr e)), r .0 .0 .1), r .0 .1), r .1)) (refl, refl)
 
 pub perform-spec : {M : Type 1} → statement M
 perform-spec =
@@ -340,8 +324,8 @@ perform-spec =
     orientation-requires
     begin-suppression-requires
     end-suppression-requires
+    mark-of-requires
     draw-rule-requires
-    draw-rule-requires-2
     show-text-requires
     repeat-string-requires
     same-length
@@ -380,8 +364,5 @@ perform-spec =
     same-length-18
     same-length-19
     returns-17
-    same-length-20
-    same-length-21
     returns-18
-    returns-19
-    returns-20)
+    returns-19)

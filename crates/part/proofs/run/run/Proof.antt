@@ -62,6 +62,9 @@ read-element-requires c κs =
 enum-known-found : tie.Need-enum-known-found Inv-loop μ-loop
 enum-known-found c = search needs
 
+cast-fault : tie.Need-cast-fault Inv-loop μ-loop
+cast-fault c = search needs
+
 same-length : tie.Need-same-length Inv-loop μ-loop
 same-length c =
     let l = c .before .before .before .before .before .before .before in
@@ -457,6 +460,7 @@ run-spec =
     slice-read-read-element
     read-element-requires
     enum-known-found
+    cast-fault
     same-length
     same-length-2
     returns
