@@ -8,7 +8,7 @@ use mathlib.Core.Logic.{_⊎_, inl, inr, ⊎-elim}
 use native.Mathlib.Nat.{zero-add, suc-mul, mul-suc, zero-mul, add-assoc, mul-le-mul-left, mul-le-mul-right, le-of-lt, mul-left-comm, mul-add, div-add-mod', mod-lt}
 use native.Mathlib.Numerals.{add-one}
 use native.Mathlib.Omega.{arith}
-use borrow.Author.Tests.{le-leb, lt-leb, eqb-true}
+use borrow.Author.Tests.{le-leb, lt-leb, eqb-true, eqb-false}
 use lib.ListN.{length, take, getD, drop, drop-of-length-le}
 use lib.Seq.{drop-cons, length-take-le}
 use lib.Dec.{leb, eqb}
@@ -16,7 +16,7 @@ use Rattle.part.specs.Numbers.{if_then_else_, origin, last}
 use Rattle.part.specs.Checks.{Checked, fine, fault, _>>=_}
 use Rattle.part.specs.Presenting.{moved}
 use Rattle.part.specs.Text.{cycle}
-use Rattle.part.specs.Code.{verdict, reached, widthIn, stepped, along, sumOf, widthsOf, rowWidths, isSpace, spacesIn}
+use Rattle.part.specs.Code.{verdict, reached, widthIn, stepped, along, sumOf, widthsOf, rowWidths, isSpace, spacesIn, AtLeast}
 use Rattle.part.specs.declared.text.Line.{Line}
 use Rattle.part.specs.declared.text.Reached.{Reached}
 use Rattle.part.proofs.Checks.{after, regrouped}
@@ -57,6 +57,38 @@ module _ (f : ℕ → ℕ) where
   unfolding sumOf
   sum-bound b h [] = omega arith
   sum-bound b h (c ∷ t) = rw mul-suc (omega (arith, h c, sum-bound b h t))
+
+  -- where it is nowhere less than a number
+  pub sum-least : (least : ℕ) (t : List ℕ) → AtLeast f least t → length t * least ≤ sumOf f t
+  unfolding sumOf
+  sum-least least [] h = rw zero-mul (omega arith)
+  sum-least least (c ∷ t) h = rw suc-mul (omega (arith, h .0, sum-least least t (h .1)))
+
+  pub at-least : (least : ℕ) (t : List ℕ) → ((k : ℕ) → k < length t → least ≤ f (getD t k 0)) → AtLeast f least t
+  at-least least [] h = tt
+  at-least least (c ∷ t) h = (h 0 (omega arith), at-least least t (λ k s. h (suc k) (omega arith)))
+
+  weaker : (least less : ℕ) (t : List ℕ) → less ≤ least → AtLeast f least t → AtLeast f less t
+  weaker least less [] h all = tt
+  weaker least less (c ∷ t) h all = (omega (arith, all .0), weaker least less t h (all .1))
+
+-- the least of the first k, and then of one more
+pub lower : (g : ℕ → ℕ) (k old new : ℕ) → new ≤ old → new ≤ g k → ((j : ℕ) → j < k → old ≤ g j) → (j : ℕ) → j < k + 1 → new ≤ g j
+lower g k old new h m all j s =
+    (elim (eqb j k) as (λ t. eqb j k ≡ t → new ≤ g j) [
+      | true ↦ λ e. rw (eqb-true j k e) m
+      | false ↦ λ e.
+          let other = eqb-false j k e in
+          let before = all j (omega (arith, other)) in
+          omega arith
+    ]) refl
+
+pub width-least : (row : List ℕ) (space least c : ℕ) → least ≤ space → least ≤ getD row c 0 → least ≤ widthIn row space c
+width-least row space least c h k = go (eqb c 0x40)
+  where
+    go : (t : Bool) → least ≤ (if t then space else getD row c 0)
+    go true = h
+    go false = k
 
 -- Spaces counted apart: each takes the line's width for the row's.
 pub spaces-apart : (row : List ℕ) (space : ℕ) (t : List ℕ) → widthsOf row space t + spacesIn t * getD row 0x40 0 ≡ rowWidths row t + spacesIn t * space
@@ -186,6 +218,32 @@ module _ (row : List ℕ) (l : Line) where
   pub level-cycle : (t : List ℕ) (i count total : ℕ) → total ≡ widthsOf row (l .space) (cycle t 0 count) → l .minus ≡ 0 → i + total + count * l .plus ≤ last → Clear l i (i + total + count * l .plus) → along row l i (cycle t 0 count) ≡ fine (i + total + count * l .plus)
   level-cycle t i count total e z m clear =
       level i (i + total + count * l .plus) (cycle t 0 count) z (rw (← e, length-cycle t 0 count)) m clear
+
+  -- The same where an adjustment is subtracted and no character is narrower than it.
+  pub rising : (i end : ℕ) (cs : List ℕ) → AtLeast (widthIn row (l .space)) (l .minus) cs → i + widthsOf row (l .space) cs + length cs * l .plus ≡ end + length cs * l .minus → end ≤ last → Clear l i (end + l .minus) → along row l i cs ≡ fine end
+  unfolding along sumOf
+  rising i end [] low e m clear =
+      let sum : i + 0 + 0 ≡ end + 0 = rw (zero-mul, zero-mul) at e in
+      ap fine (omega arith)
+  rising i end (c ∷ cs) low e m clear =
+      let w = widthIn row (l .space) c in
+      let j = i + w + l .plus - l .minus in
+      let sum : i + (w + widthsOf row (l .space) cs) + (length cs * l .plus + l .plus) ≡ end + (length cs * l .minus + l .minus) = rw (suc-mul, suc-mul) at e in
+      let least = sum-least (widthIn row (l .space)) (l .minus) cs (low .1) in
+      let wide = low .0 in
+      let here : Clear l i (i + w + l .plus) = ⊎-elim (λ s. inl s) (λ b. inr (b .0, omega arith)) clear in
+      let further : Clear l j (end + l .minus) = ⊎-elim (λ s. inl s) (λ b. inr (omega arith, b .1)) clear in
+      rw (along, moves i w here (omega arith) (omega arith)) (rising j end cs (low .1) (omega arith) m further)
+
+  module _ (t : List ℕ) (i total least : ℕ) (e : total ≡ widthsOf row (l .space) t) (low : AtLeast (widthIn row (l .space)) least t) (h : l .minus ≤ least) where
+    pub rising-far : length t * l .minus ≤ i + total + length t * l .plus
+    rising-far = omega (arith, sum-least (widthIn row (l .space)) (l .minus) t (weaker (widthIn row (l .space)) least (l .minus) t h low))
+
+    pub rising-text : i + total + length t * l .plus - length t * l .minus ≤ last → Clear l i (i + total + length t * l .plus - length t * l .minus + l .minus)
+        → along row l i t ≡ fine (i + total + length t * l .plus - length t * l .minus)
+    rising-text m clear =
+        let far = rising-far in
+        rising i (i + total + length t * l .plus - length t * l .minus) t (weaker (widthIn row (l .space)) least (l .minus) t h low) (omega arith) m clear
 
 pub space-most : (c : ℕ) → isSpace c ≤ 1
 space-most c = go (eqb c 0x40)

@@ -169,6 +169,11 @@ unfoldable pub sumOf : (ℕ → ℕ) → List ℕ → ℕ
 sumOf f [] = 0
 sumOf f (c ∷ cs) = f c + sumOf f cs
 
+-- it is nowhere less than a number
+abbrev pub AtLeast : (ℕ → ℕ) → ℕ → List ℕ → Type 0
+AtLeast f least [] = Unit
+AtLeast f least (c ∷ cs) = (least ≤ f c) × AtLeast f least cs
+
 -- their widths; those in the row alone, and how many are X'40'
 abbrev pub widthsOf : List ℕ → ℕ → List ℕ → ℕ
 widthsOf row space = sumOf (widthIn row space)

@@ -68,7 +68,7 @@ fn copy_on(area: &mut [u8], from: usize, to: usize, n: usize)
     }
 }
 
-fn lesser(a: usize, b: usize) -> usize
+pub fn lesser(a: usize, b: usize) -> usize
     ensures { λ r. ⌜ (r ≤ a) × ((r ≤ b) × ((r ≡ a) ⊎ (r ≡ b))) ⌝ }
 {
     if a < b { a } else { b }

@@ -3,7 +3,8 @@ ghost use mathlib.Core.Path.{_≡_};
 ghost use Prim.Native.Nat.{_+_, _*_, _≤_, _<_};
 ghost use lib.ListN.{length};
 ghost use Rattle.part.specs.Text.{cycle};
-ghost use Rattle.part.specs.Code.{reached, widthIn, along, rowWidths, isSpace, spacesIn, widthsOf};
+ghost use Rattle.part.specs.Code.{reached, widthIn, along, rowWidths, isSpace, spacesIn, widthsOf, AtLeast};
+use super::record::lesser;
 
 const ORIGIN: usize = 32768;
 
@@ -149,6 +150,45 @@ fn walk_cycle(t: &[u8], count: usize, row: &[u16], l: Line, start: usize) -> Rea
     walk(&t[..left], row, l, i)
 }
 
+// The least width of some characters, or of X'40' in the line if that is less.
+fn narrowest(t: &[u8], row: &[u16], space: usize) -> usize
+    requires { ⌜ length (now row) ≡ 256 ⌝ }
+    ensures { λ r. ⌜ AtLeast (widthIn (now (row .entry)) space) r (now (t .entry)) ⌝ }
+{
+    let mut least = space;
+    let mut k: usize = 0;
+    while k < t.len() {
+        let c = t[k] as usize;
+        let own = row[c] as usize;
+        least = lesser(least, own);
+        k += 1;
+    }
+    least
+}
+
+// A text from which an adjustment is subtracted. Where no character is narrower than that, I does not fall here either.
+fn present_back(t: &[u8], row: &[u16], l: Line, start: usize) -> Reached
+    requires { ⌜ (length (now row) ≡ 256) × ((l .space < 4294967296) × ((l .limit < 8589934592) × ((l .plus < 4294967296) × ((l .minus < 4294967296) × ((start < 4294967296) × (length (now t) < 65536)))))) ⌝ }
+    ensures { λ r. ⌜ (reached r ≡ along (now (row .entry)) l start (now (t .entry))) × (r .at < 4294967296) ⌝ }
+{
+    if l.minus <= narrowest(t, row, l.space) {
+        let n = t.len();
+        let far = start + total(t, row, l.space) + n * l.plus;
+        let end = far - n * l.minus;
+        if end <= LAST {
+            if !l.shown {
+                return Reached { fault: 0, at: end };
+            }
+            if ORIGIN <= start {
+                if end + l.minus <= l.limit + l.plus {
+                    return Reached { fault: 0, at: end };
+                }
+            }
+        }
+    }
+    walk(t, row, l, start)
+}
+
 // Where `count` characters of a text leave I. Where the adjustment is not taken off, I does not fall, and the last character's end decides for all.
 pub fn present(t: &[u8], count: usize, row: &[u16], l: Line, start: usize) -> Reached
     requires { ⌜ (length (now row) ≡ 256) × ((l .space < 4294967296) × ((l .limit < 8589934592) × ((l .plus < 4294967296) × ((l .minus < 4294967296) × ((start < 4294967296) × ((0 < length (now t)) × ((length (now t) < 65536) × (count < 65536)))))))) ⌝ }
@@ -166,6 +206,9 @@ pub fn present(t: &[u8], count: usize, row: &[u16], l: Line, start: usize) -> Re
                 }
             }
         }
+    }
+    if count == t.len() {
+        return present_back(t, row, l, start);
     }
     walk_cycle(t, count, row, l, start)
 }

@@ -8,6 +8,7 @@ use native.Mathlib.Omega.{arith}
 use borrow.Author.Needs.{needs}
 use borrow.Author.Tests.{not-true}
 use denote.Ref.{now}
+use Rattle.part.proofs.Cycles.{once}
 use Rattle.part.proofs.Lines.{level-cycle}
 use Rattle.part.proofs.text.present.Statement.{statement}
 use Rattle.part.proofs.text.present.Tie as tie
@@ -45,11 +46,19 @@ returns-2 c =
     let a = t .before .before .before .before .before .args in
     (sym (level-cycle (now (a .row)) (a .l) (now (a .t)) (a .start) (a .count) (t .cycle-total .result) (t .cycle-total .ensures .0) (t .before .if1 .taken) (c .before .before .before .before .before .if2 .taken) (inr (c .before .before .if4 .taken, c .if5 .taken))), search needs)
 
+present-back-requires : tie.Need-present-back-requires
+present-back-requires c κs = search needs
+
+returns-3 : tie.Need-returns-3
+returns-3 c =
+    let a = c .before .before .before .before .before .before .args in
+    (rw (c .before .if6 .taken, once (now (a .t))) (c .present-back .ensures .0), search needs)
+
 walk-cycle-requires : tie.Need-walk-cycle-requires
 walk-cycle-requires c κs = search needs
 
-returns-3 : tie.Need-returns-3
-returns-3 c = search needs
+returns-4 : tie.Need-returns-4
+returns-4 c = search needs
 
 pub present-spec : {M : Type 1} → statement M
 present-spec =
@@ -62,5 +71,7 @@ present-spec =
     returns
     add-if5
     returns-2
+    present-back-requires
+    returns-3
     walk-cycle-requires
-    returns-3)
+    returns-4)
