@@ -13,8 +13,8 @@ pub mod Fits
 pub mod Inks
 pub mod Kept
 pub mod Lines
-pub mod Masks
 pub mod Outcomes
+pub mod Packed
 pub mod Parts
 pub mod Places
 pub mod Placing

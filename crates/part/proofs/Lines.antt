@@ -1,7 +1,7 @@
 -- Characters along a line: `a ++ b` is a, and then b from where a left off. Where I does not fall, the last character's end decides for all.
 -- Assumes nothing.
 use Prim.Native.Nat.{ℕ, zero, suc, _+_, _*_, _-_, _/_, _%_, _<_, _≤_}
-use mathlib.Core.Path.{_≡_, refl, sym, _∙_, ap}
+use mathlib.Core.Path.{_≡_, refl, sym, _∙_, ap, subst}
 use mathlib.Core.Bool.{Bool, true, false, not, _&&_, _||_, or-true, and-false}
 use mathlib.Core.List.{List, [], _∷_, _++_}
 use mathlib.Core.Logic.{_⊎_, inl, inr, ⊎-elim}
@@ -16,7 +16,7 @@ use Rattle.part.specs.Numbers.{if_then_else_, origin, last}
 use Rattle.part.specs.Checks.{Checked, fine, fault, _>>=_}
 use Rattle.part.specs.Presenting.{moved}
 use Rattle.part.specs.Text.{cycle}
-use Rattle.part.specs.Code.{verdict, reached, widthIn, stepped, along, sumOf, widthsOf, rowWidths, isSpace, spacesIn, AtLeast}
+use Rattle.part.specs.Code.{verdict, reached, widthIn, stepped, along, sumOf, widthsOf, rowWidths, isSpace, spacesIn, AtLeast, Fixed}
 use Rattle.part.specs.declared.text.Line.{Line}
 use Rattle.part.specs.declared.text.Reached.{Reached}
 use Rattle.part.proofs.Checks.{after, regrouped}
@@ -72,16 +72,28 @@ module _ (f : ℕ → ℕ) where
   weaker least less [] h all = tt
   weaker least less (c ∷ t) h all = (omega (arith, all .0), weaker least less t h (all .1))
 
+-- one more place of which a fact holds
+pub further : (P : ℕ → Type 0) (k : ℕ) → ((j : ℕ) → j < k → P j) → P k → (j : ℕ) → j < k + 1 → P j
+further P k all here j s =
+    (elim (eqb j k) as (λ t. eqb j k ≡ t → P j) [
+      | true ↦ λ e. subst P (sym (eqb-true j k e)) here
+      | false ↦ λ e. let other = eqb-false j k e in all j (omega (arith, other))
+    ]) refl
+
 -- the least of the first k, and then of one more
 pub lower : (g : ℕ → ℕ) (k old new : ℕ) → new ≤ old → new ≤ g k → ((j : ℕ) → j < k → old ≤ g j) → (j : ℕ) → j < k + 1 → new ≤ g j
-lower g k old new h m all j s =
-    (elim (eqb j k) as (λ t. eqb j k ≡ t → new ≤ g j) [
-      | true ↦ λ e. rw (eqb-true j k e) m
-      | false ↦ λ e.
-          let other = eqb-false j k e in
-          let before = all j (omega (arith, other)) in
-          omega arith
-    ]) refl
+lower g k old new h m all =
+    further (λ j. new ≤ g j) k
+    (λ j s.
+    let before = all j s in
+    omega arith) m
+
+-- a row with one width
+module _ (row : List ℕ) (fixed : Fixed row) where
+  pub fixed-sum : (t : List ℕ) → ((k : ℕ) → getD t k 0 < 256) → rowWidths row t ≡ length t * getD row 0 0
+  unfolding sumOf
+  fixed-sum [] h = sym (zero-mul (getD row 0 0))
+  fixed-sum (c ∷ t) h = rw (fixed c (h 0), fixed-sum t (λ k. h (suc k)), suc-mul) (omega arith)
 
 pub width-least : (row : List ℕ) (space least c : ℕ) → least ≤ space → least ≤ getD row c 0 → least ≤ widthIn row space c
 width-least row space least c h k = go (eqb c 0x40)

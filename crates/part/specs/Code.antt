@@ -45,23 +45,23 @@ lengthsIn (fault code at) = all 0 0
 abbrev pub lengthsOf : ℕ → Lengths
 lengthsOf code = lengthsIn (rowOf types code)
 
--- a row of the code's table: a bit for each LENGTH up to 7 that a type takes, and the bit of 8 for all above
+-- a row of the code's table: its greatest and its least LENGTH, a byte each; below them a bit for each LENGTH up to 7 that it takes, and the bit of 8 for all above
 abbrev pub bitOf : ℕ → ℕ → Bool
 bitOf row n = eqb (row / 2 ^ (if ltb n 8 then n else 8) % 2) 1
 
-abbrev pub maskUpTo : ℕ → Lengths → ℕ
-maskUpTo zero ns = 0
-maskUpTo (suc k) ns = maskUpTo k ns + (if ns takes k then 2 ^ k else 0)
+abbrev pub bitsUpTo : ℕ → Lengths → ℕ
+bitsUpTo zero ns = 0
+bitsUpTo (suc k) ns = bitsUpTo k ns + (if ns takes k then 2 ^ k else 0)
 
-abbrev pub maskOf : Lengths → ℕ
-maskOf ns = maskUpTo 9 ns
+abbrev pub packed : Lengths → ℕ
+packed ns = bitsUpTo 9 ns + ns .least * 65536 + ns .greatest * 16777216
 
 abbrev pub listed : {A : Type 0} → (ℕ → A) → ℕ → List A
 listed rule zero = []
 listed rule (suc n) = rule 0 ∷ listed (λ k. rule (suc k)) n
 
 unfoldable pub rows : List ℕ
-rows = listed (λ half. maskOf (lengthsOf (half * 2))) 128
+rows = listed (λ half. packed (lengthsOf (half * 2))) 128
 
 -- the three tests of a TYPE and its LENGTH, in their order
 abbrev pub fitting : ℕ → ℕ → Checked Unit
@@ -180,6 +180,10 @@ widthsOf row space = sumOf (widthIn row space)
 
 abbrev pub rowWidths : List ℕ → List ℕ → ℕ
 rowWidths row = sumOf (λ c. getD row c 0)
+
+-- a row with one width for all
+abbrev pub Fixed : List ℕ → Type 0
+Fixed row = (c : ℕ) → c < 256 → getD row c 0 ≡ getD row 0 0
 
 abbrev pub isSpace : ℕ → ℕ
 isSpace c = if eqb c 0x40 then 1 else 0

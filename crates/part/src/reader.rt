@@ -69,7 +69,7 @@ fn run_length(bytes: &[u8]) -> usize
 }
 
 // The sequence whose LENGTH and TYPE stand at `at`, behind the prefix or in a chain.
-fn read_sequence(types: &[u16; 128], bytes: &[u8], at: usize) -> Read
+fn read_sequence(types: &[u32; 128], bytes: &[u8], at: usize) -> Read
     requires { ⌜ (now types ≡ rows) × (at ≤ 2) ⌝ }
     ensures { λ r. ⌜ (foundBy (now (bytes .entry)) r ≡ sequence at (now (bytes .entry))) × Within (length (now (bytes .entry))) r ⌝ }
 {
@@ -98,7 +98,7 @@ fn read_sequence(types: &[u16; 128], bytes: &[u8], at: usize) -> Read
 }
 
 // The element at the start of some bytes.
-pub fn read_element(types: &[u16; 128], bytes: &[u8], chain: u32) -> Read
+pub fn read_element(types: &[u32; 128], bytes: &[u8], chain: u32) -> Read
     requires { ⌜ (now types ≡ rows) × (0 < length (now bytes)) ⌝ }
     ensures { λ r. ⌜ (foundBy (now (bytes .entry)) r ≡ element chain (now (bytes .entry))) × Within (length (now (bytes .entry))) r ⌝ }
 {

@@ -22,7 +22,7 @@ pub struct Outcome {
 }
 
 pub fn run(
-    types: &[u16; 128],
+    types: &[u32; 128],
     part: &[u8],
     widths: &[u16],
     area: &mut [u8],

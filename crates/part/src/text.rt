@@ -1,9 +1,10 @@
 // Characters along the line: where they leave I, or the first that is refused.
 ghost use mathlib.Core.Path.{_≡_};
+ghost use mathlib.Core.Bool.{true};
 ghost use Prim.Native.Nat.{_+_, _*_, _≤_, _<_};
 ghost use lib.ListN.{length};
 ghost use Rattle.part.specs.Text.{cycle};
-ghost use Rattle.part.specs.Code.{reached, widthIn, along, rowWidths, isSpace, spacesIn, widthsOf, AtLeast};
+ghost use Rattle.part.specs.Code.{reached, widthIn, along, rowWidths, isSpace, spacesIn, widthsOf, AtLeast, Fixed};
 use super::record::lesser;
 
 const ORIGIN: usize = 32768;
@@ -43,8 +44,31 @@ fn width(row: &[u16], space: usize, c: u8) -> usize
     own * (1 - n) + space * n
 }
 
-// The widths of some characters together, in the font's row alone.
-fn row_total(t: &[u8], row: &[u16]) -> usize
+// Whether a row has one width for all, as a font of fixed pitch has. Looked for only where text is long enough to gain by it.
+fn is_fixed(n: usize, row: &[u16]) -> bool
+    requires { ⌜ length (now row) ≡ 256 ⌝ }
+    ensures { λ r. ⌜ (r ≡ true → Fixed (now (row .entry))) ⌝ }
+{
+    if n < 64 {
+        return false;
+    }
+    let first = row[0];
+    if row[0x40] != first {
+        return false;
+    }
+    let mut same = true;
+    let mut k: usize = 0;
+    while k < 256 {
+        if row[k] != first {
+            same = false;
+        }
+        k += 1;
+    }
+    same
+}
+
+// The widths of some characters together, in the font's row alone, one after the other.
+fn row_sum(t: &[u8], row: &[u16]) -> usize
     requires { ⌜ (length (now row) ≡ 256) × (length (now t) < 65536) ⌝ }
     ensures { λ r. ⌜ (r ≡ rowWidths (now (row .entry)) (now (t .entry))) × (r ≤ 65536 * length (now (t .entry))) ⌝ }
 {
@@ -56,6 +80,19 @@ fn row_total(t: &[u8], row: &[u16]) -> usize
         k += 1;
     }
     sum
+}
+
+// The same; of a row with one width, a product.
+fn row_total(t: &[u8], row: &[u16]) -> usize
+    requires { ⌜ (length (now row) ≡ 256) × (length (now t) < 65536) ⌝ }
+    ensures { λ r. ⌜ (r ≡ rowWidths (now (row .entry)) (now (t .entry))) × (r ≤ 65536 * length (now (t .entry))) ⌝ }
+{
+    let n = t.len();
+    if is_fixed(n, row) {
+        let all = row[0] as usize;
+        return n * all;
+    }
+    row_sum(t, row)
 }
 
 // How many of some characters are X'40'.
@@ -150,8 +187,8 @@ fn walk_cycle(t: &[u8], count: usize, row: &[u16], l: Line, start: usize) -> Rea
     walk(&t[..left], row, l, i)
 }
 
-// The least width of some characters, or of X'40' in the line if that is less.
-fn narrowest(t: &[u8], row: &[u16], space: usize) -> usize
+// The least width of some characters, or of X'40' in the line if that is less, one after the other.
+fn least_width(t: &[u8], row: &[u16], space: usize) -> usize
     requires { ⌜ length (now row) ≡ 256 ⌝ }
     ensures { λ r. ⌜ AtLeast (widthIn (now (row .entry)) space) r (now (t .entry)) ⌝ }
 {
@@ -164,6 +201,19 @@ fn narrowest(t: &[u8], row: &[u16], space: usize) -> usize
         k += 1;
     }
     least
+}
+
+// The same; of a row with one width, that.
+fn narrowest(t: &[u8], row: &[u16], space: usize) -> usize
+    requires { ⌜ length (now row) ≡ 256 ⌝ }
+    ensures { λ r. ⌜ AtLeast (widthIn (now (row .entry)) space) r (now (t .entry)) ⌝ }
+{
+    let n = t.len();
+    if is_fixed(n, row) {
+        let all = row[0] as usize;
+        return lesser(space, all);
+    }
+    least_width(t, row, space)
 }
 
 // A text from which an adjustment is subtracted. Where no character is narrower than that, I does not fall here either.

@@ -21,10 +21,10 @@ pub struct Kind {
 }
 
 // DIR and DBR: LENGTH 4 or 7.
-const RULE: u16 = 0x90;
+const RULE: u32 = 0x07040090;
 
-// A row for each even TYPE from 00 to FE: a bit for each LENGTH up to 7 that it takes, and one for all above.
-pub const TYPES: [u16; 128] = [
+// A row for each even TYPE from 00 to FE: its greatest and its least LENGTH, a byte each, and below them a bit for each LENGTH up to 7 that it takes, and one for all above.
+pub const TYPES: [u32; 128] = [
     0,
     0,
     0,
@@ -84,7 +84,7 @@ pub const TYPES: [u16; 128] = [
     0,
     0,
     // 74: STC
-    0x30,
+    0x05040030,
     0,
     0,
     0,
@@ -123,29 +123,29 @@ pub const TYPES: [u16; 128] = [
     0,
     0,
     // C0: SIM
-    0x10,
+    0x04040010,
     // C2: SIA
-    0x30,
+    0x05040030,
     // C4: SVI
-    0x10,
+    0x04040010,
     // C6: AMI
-    0x10,
+    0x04040010,
     // C8: RMI
-    0x10,
+    0x04040010,
     0,
     0,
     0,
     // D0: SBI
-    0x10,
+    0x04040010,
     // D2: AMB
-    0x10,
+    0x04040010,
     // D4: RMB
-    0x10,
+    0x04040010,
     0,
     // D8: BLN
-    0x4,
+    0x02020004,
     // DA: TRN
-    0x1FC,
+    0xFF0201FC,
     0,
     0,
     0,
@@ -158,17 +158,17 @@ pub const TYPES: [u16; 128] = [
     0,
     0,
     // EE: RPS
-    0x1F0,
+    0xFF0401F0,
     // F0: SCFL
-    0x8,
+    0x03030008,
     // F2: BSU
-    0x8,
+    0x03030008,
     // F4: ESU
-    0x8,
+    0x03030008,
     // F6: STO
-    0x40,
+    0x06060040,
     // F8: NOP
-    0x1FC,
+    0xFF0201FC,
     0,
     0,
     0,
@@ -192,7 +192,7 @@ fn place_of(n: u8) -> u8
 }
 
 // Whether a row has a LENGTH.
-fn has(row: u16, n: u8) -> bool
+fn has(row: u32, n: u8) -> bool
     ensures { λ r. ⌜ r ≡ bitOf row n ⌝ }
 {
     let k = place_of(n);
@@ -200,7 +200,7 @@ fn has(row: u16, n: u8) -> bool
 }
 
 // A TYPE and its LENGTH: 0, or 22 or 23. One bit decides for those that fit. The table is lent, so that it is made once a part and not once a sequence.
-pub fn misfit(types: &[u16; 128], byte: u8, n: u8) -> u16
+pub fn misfit(types: &[u32; 128], byte: u8, n: u8) -> u16
     requires { ⌜ now types ≡ rows ⌝ }
     ensures { λ r. ⌜ verdict r tt ≡ fitting (function byte) n ⌝ }
 {
@@ -212,7 +212,8 @@ pub fn misfit(types: &[u16; 128], byte: u8, n: u8) -> u16
     if n < 2 {
         return 22;
     }
-    if row == 0 {
+    let greatest = row / 16777216;
+    if greatest == 0 {
         return 23;
     }
     22

@@ -1,79 +1,47 @@
--- `part::text::row_total` meets its contract. The invariant: the sum and the widths that are left are the widths of all.
+-- `part::text::row_total` meets its contract: characters of one width are a product.
 -- Assumes nothing.
-use Prim.Native.Nat.{_+_, _*_, _-_, _≤_}
-use Rattle.part.proofs.Lines.{sum-rest, sum-none}
-use Rattle.part.specs.Code.{rowWidths}
+use Prim.Native.Nat.{_≤_}
+use Rattle.part.proofs.Lines.{fixed-sum, product-fits}
 use borrow.Author.Needs.{needs}
 use denote.Ref.{now}
-use lib.ListN.{length, drop, getD}
-use mathlib.Core.Path.{_≡_}
+use lib.ListN.{length, getD}
+use mathlib.Core.Path.{sym}
+use native.Mathlib.Nat.{mul-le-mul-left}
 use native.Mathlib.Omega.{arith}
 use Rattle.part.proofs.text.row_total.Statement.{statement}
 use Rattle.part.proofs.text.row_total.Tie as tie
 
-abbrev Inv-loop : tie.InvT-loop
-Inv-loop t row sum₀ k₀ sum k = (k ≤ length t) × ((sum ≤ 65536 * k) × (sum + rowWidths row (drop k t) ≡ rowWidths row t))
+is-fixed-requires : tie.Need-is-fixed-requires
+is-fixed-requires c κs = search needs
 
-abbrev μ-loop : tie.MeasureT-loop
-μ-loop t row sum₀ k₀ sum k = length t - k
+shared-slice-read-all : tie.Need-shared-slice-read-all
+shared-slice-read-all c = search needs
 
-loop-holds : tie.Need-loop-holds Inv-loop μ-loop
-loop-holds c = search needs
+cast-all : tie.Need-cast-all
+cast-all c = omega (arith, c .shared-slice-known3 .given 0)
 
-shared-slice-read-c : tie.Need-shared-slice-read-c Inv-loop μ-loop
-shared-slice-read-c c = search needs
+mul-result : tie.Need-mul-result
+mul-result c =
+    let a = c .before .before .before .before .before .args in
+    omega (arith, product-fits (length (now (a .t))) (getD (now (a .row)) 0 0) (search needs) (omega (arith, c .shared-slice-known3 .given 0)))
 
-cast-c : tie.Need-cast-c Inv-loop μ-loop
-cast-c c = omega (arith, c .shared-slice-known .given (c .before .before .loop .k))
-
-mul-sum : tie.Need-mul-sum Inv-loop μ-loop
-mul-sum c = omega (arith, c .shared-slice-known .given (c .before .before .loop .k))
-
-shared-slice-read-sum : tie.Need-shared-slice-read-sum Inv-loop μ-loop
-shared-slice-read-sum c = omega (arith, c .before .shared-slice-known .given (c .before .before .before .loop .k))
-
-cast-sum : tie.Need-cast-sum Inv-loop μ-loop
-cast-sum c = omega (arith, c .shared-slice-known2 .given (getD (now (c .before .before .before .before .args .t)) (c .before .before .before .loop .k) 0))
-
-add-sum : tie.Need-add-sum Inv-loop μ-loop
-add-sum c = omega (arith, c .shared-slice-known2 .given (getD (now (c .before .before .before .before .args .t)) (c .before .before .before .loop .k) 0))
-
-add-k : tie.Need-add-k Inv-loop μ-loop
-add-k c = search needs
-
-loop-less : tie.Need-loop-less Inv-loop μ-loop
-loop-less c = search needs
-
-loop-again : tie.Need-loop-again Inv-loop μ-loop
-loop-again c =
-    let l = c .before .before .before in
-    let a = l .before .args in
-    let row = now (a .row) in
-    let rest = sum-rest (λ c. getD row c 0) (now (a .t)) (l .loop .k) (search needs) in
-    (search needs, (omega (arith, c .shared-slice-known2 .given (getD (now (a .t)) (l .loop .k) 0)), omega (arith, rest, l .loop .inv .1 .1)))
-
-returns : tie.Need-returns Inv-loop μ-loop
+returns : tie.Need-returns
 returns c =
-    let l = c .before in
-    let a = l .before .args in
+    let st = c .before .before .before .before .before in
+    let a = st .args in
     let row = now (a .row) in
-    let none = sum-none (λ c. getD row c 0) (now (a .t)) (l .loop .k) (c .loop-test .left) in
-    (omega (arith, none, l .loop .inv .1 .1), search needs)
+    let t = now (a .t) in
+    let w : getD row 0 0 ≤ 65536 = omega (arith, c .shared-slice-known3 .given 0) in
+    let most = mul-le-mul-left (length t) w in
+    (sym (fixed-sum row (c .before .before .is-fixed .ensures (c .before .if1 .taken)) t (λ k. omega (arith, c .before .before .before .before .shared-slice-known .given k))), omega arith)
+
+row-sum-requires : tie.Need-row-sum-requires
+row-sum-requires c κs = search needs
+
+returns-2 : tie.Need-returns-2
+returns-2 c = search needs
 
 pub row-total-spec : {M : Type 1} → statement M
 row-total-spec =
     tie.close
-    (tie.spec
-    Inv-loop
-    μ-loop
-    loop-holds
-    shared-slice-read-c
-    cast-c
-    mul-sum
-    shared-slice-read-sum
-    cast-sum
-    add-sum
-    add-k
-    loop-less
-    loop-again
-    returns)
+    (tie.spec is-fixed-requires shared-slice-read-all cast-all mul-result returns row-sum-requires returns-2)

@@ -1,7 +1,7 @@
 -- `part::types::misfit` meets its contract: the table's row is the rule book's, and its bit decides.
 -- Assumes nothing.
 use Prim.Native.Nat.{ℕ, _*_, _/_}
-use Rattle.part.proofs.Masks.{row-at, fits, too-short, untyped, misfits}
+use Rattle.part.proofs.Packed.{row-at, fits, too-short, untyped, misfits}
 use borrow.Author.Needs.{needs}
 use lib.ListN.{getD}
 use mathlib.Core.List.{List}

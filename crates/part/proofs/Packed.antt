@@ -1,6 +1,6 @@
 -- The code's table of types: a bit of a row says whether the type takes a LENGTH. One test that computes says so of every row and every LENGTH.
 -- Assumes nothing.
-use Prim.Native.Nat.{ℕ, zero, suc, _*_, _<_, _≤_}
+use Prim.Native.Nat.{ℕ, zero, suc, _*_, _/_, _<_, _≤_}
 use mathlib.Core.Path.{_≡_, refl, sym, _∙_, ap}
 use mathlib.Core.Bool.{Bool, true, false, not, _&&_, true≢false}
 use mathlib.Core.List.{List, [], _∷_}
@@ -11,7 +11,7 @@ use borrow.Author.Tests.{le-leb, lt-leb, leb-true, leb-false, eqb-true, eqb-fals
 use Rattle.part.specs.Numbers.{if_then_else_}
 use Rattle.part.specs.Checks.{Checked, fine, fault}
 use Rattle.part.specs.Types.{Row, types, rowOf, all, _takes_}
-use Rattle.part.specs.Code.{lengthsIn, lengthsOf, bitOf, maskOf, listed, rows, fitting}
+use Rattle.part.specs.Code.{lengthsIn, lengthsOf, bitOf, packed, listed, rows, fitting}
 use Rattle.part.specs.declared.types.Lengths.{Lengths}
 use Rattle.part.proofs.Checks.{first-of, second-of}
 use Rattle.part.proofs.Rows.{unknown, known}
@@ -49,38 +49,38 @@ same-is : (a b : Bool) → same a b ≡ true → a ≡ b
 same-is true b e = sym e
 same-is false b e = sym (not-true b e)
 
--- ---- a row's bits are its LENGTHs; none takes 0 or 1; a row without a bit is none
+-- ---- a row's bits are its LENGTHs; none takes 0 or 1; only no type has 0 as its greatest
 
 abbrev bits : Lengths → Bool
-bits ns = below 256 (λ n. same (bitOf (maskOf ns) n) (ns takes n))
+bits ns = below 256 (λ n. same (bitOf (packed ns) n) (ns takes n))
 
 abbrev introduced : Lengths → Bool
 introduced ns = below 2 (λ n. not (ns takes n))
 
 abbrev empty : Lengths → Bool
-empty ns = same (eqb (maskOf ns) 0) (eqb (ns .greatest) 0)
+empty ns = same (eqb (packed ns / 16777216) 0) (eqb (ns .greatest) 0)
 
-bit-of : (code n : ℕ) → n < 256 → bitOf (maskOf (lengthsOf code)) n ≡ (lengthsOf code takes n)
+bit-of : (code n : ℕ) → n < 256 → bitOf (packed (lengthsOf code)) n ≡ (lengthsOf code takes n)
 unfolding types
-bit-of code n h = same-is _ _ (each 256 (λ k. same (bitOf (maskOf (lengthsOf code)) k) (lengthsOf code takes k)) (in-each bits types code refl) n h)
+bit-of code n h = same-is _ _ (each 256 (λ k. same (bitOf (packed (lengthsOf code)) k) (lengthsOf code takes k)) (in-each bits types code refl) n h)
 
 not-below : (code n : ℕ) → n < 2 → (lengthsOf code takes n) ≡ false
 unfolding types
 not-below code n h = not-true _ (each 2 (λ k. not (lengthsOf code takes k)) (in-each introduced types code refl) n h)
 
-none-as-zero : (code : ℕ) → eqb (maskOf (lengthsOf code)) 0 ≡ eqb (lengthsOf code .greatest) 0
+none-as-zero : (code : ℕ) → eqb (packed (lengthsOf code) / 16777216) 0 ≡ eqb (lengthsOf code .greatest) 0
 unfolding types
 none-as-zero code = same-is _ _ (in-each empty types code refl)
 
 -- ---- the table's row of a TYPE
 
-pub row-at : (half : ℕ) → half < 128 → getD rows half 0 ≡ maskOf (lengthsOf (half * 2))
+pub row-at : (half : ℕ) → half < 128 → getD rows half 0 ≡ packed (lengthsOf (half * 2))
 unfolding rows
-row-at half h = at (λ k. maskOf (lengthsOf (k * 2))) 128 half 0 h
+row-at half h = at (λ k. packed (lengthsOf (k * 2))) 128 half 0 h
 
 -- ---- what a bit tells of a TYPE and its LENGTH
 
-module _ (code n row : ℕ) (small : n < 256) (e : row ≡ maskOf (lengthsOf code)) where
+module _ (code n row : ℕ) (small : n < 256) (e : row ≡ packed (lengthsOf code)) where
   taken : bitOf row n ≡ (lengthsOf code takes n)
   taken = rw e (bit-of code n small)
 
@@ -99,11 +99,11 @@ module _ (code n row : ℕ) (small : n < 256) (e : row ≡ maskOf (lengthsOf cod
   pub too-short : n < 2 → fitting code n ≡ fault 22 0
   too-short h = rw (lt-leb 2 n h)
 
-  pub untyped : 2 ≤ n → row ≡ 0 → fitting code n ≡ fault 23 0
-  untyped long h = rw (le-leb 2 n long, unknown code (eqb-true _ _ (sym (none-as-zero code) ∙ eq-eqb _ _ (sym e ∙ h))))
+  pub untyped : 2 ≤ n → row / 16777216 ≡ 0 → fitting code n ≡ fault 23 0
+  untyped long h = rw (le-leb 2 n long, unknown code (eqb-true _ _ (sym (none-as-zero code) ∙ eq-eqb _ _ (ap (λ r. r / 16777216) (sym e) ∙ h))))
 
-  pub misfits : 2 ≤ n → (row ≡ 0 → ⊥) → bitOf row n ≡ false → fitting code n ≡ fault 22 0
+  pub misfits : 2 ≤ n → (row / 16777216 ≡ 0 → ⊥) → bitOf row n ≡ false → fitting code n ≡ fault 22 0
   misfits long h none =
-      let some : lengthsOf code .greatest ≡ 0 → ⊥ = λ z. h (e ∙ eqb-true _ _ (none-as-zero code ∙ eq-eqb _ _ z)) in
+      let some : lengthsOf code .greatest ≡ 0 → ⊥ = λ z. h (ap (λ r. r / 16777216) e ∙ eqb-true _ _ (none-as-zero code ∙ eq-eqb _ _ z)) in
       let k = known (rowOf types code) some in
       rw (le-leb 2 n long, k .1, sym (rw (k .1) at taken) ∙ none)
