@@ -13,6 +13,8 @@ use Rattle.part.specs.Checks.{Checked, fine, fault, refuse, require, _>>
 use Rattle.part.specs.Types.{function, chaining, Row, types, rowOf, valuesOf, _takes_}
 use Rattle.part.specs.Reading.{Found, found, between, sequence}
 use Rattle.part.specs.Code.{verdict, lengthsIn, lengthsOf, fitting}
+use Rattle.part.specs.declared.types.Lengths.{Lengths}
+use Rattle.part.proofs.Checks.{first-of}
 
 abbrev zeroIn : List Row → Bool
 zeroIn [] = false
@@ -87,6 +89,19 @@ module _ (at : ℕ) (bytes : List ℕ) (began : at + 2 ≤ length bytes) where
       (elim (leb 2 n) as (λ t. leb 2 n ≡ t → 2 ≤ n)
       [ true ↦ leb-true 2 n | false ↦ λ s. let short : fine tt ≡ fault 22 0 = rw (z, s) at e in absurd (let z : _≡_ {A = ℕ} 0 1 = cc in omega arith) ]) refl
 
+  -- LENGTH is the type's
+  pub taken : (k : ℕ) → k ≡ 0 → verdict k tt ≡ fitting (function type) n → (lengthsOf (function type) takes n) ≡ true
+  taken k z e = shown (leb 2 n) (rowOf types (function type)) (rw z at e)
+    where
+      passed : (t : Bool) → fine tt ≡ require t 22 → t ≡ true
+      passed true s = refl
+      passed false s = absurd (let z : _≡_ {A = ℕ} 0 1 = cc in omega arith)
+
+      shown : (t : Bool) (m : Checked Row) → fine tt ≡ (require t 22 >> (m >>= λ r. require (r .lengths takes n) 22)) → (lengthsIn m takes n) ≡ true
+      shown false m s = absurd (let z : _≡_ {A = ℕ} 0 1 = cc in omega arith)
+      shown true (fault c j) s = absurd (let z : _≡_ {A = ℕ} 0 1 = cc in omega arith)
+      shown true (fine r) s = passed (r .lengths takes n) s
+
   pub fitted : (k : ℕ) → k ≡ 0 → verdict k tt ≡ fitting (function type) n → sequence at bytes ≡ do
     require (leb (at + n) (length bytes)) 20
     v ← valuesOf (function type) (between bytes (at + 2) (at + n))
@@ -96,6 +111,14 @@ module _ (at : ℕ) (bytes : List ℕ) (began : at + 2 ≤ length bytes) where
       let g = goes (λ r. r .lengths takes n) rest (leb 2 n) (rowOf types (function type)) (rw z at e) in
       rw (le-leb (at + 2) (length bytes) began)
       (g .2 ∙ ap (λ (m : Checked Row). require (leb (at + n) (length bytes)) 20 >> ((m >>= λ r. r .values (between bytes (at + 2) (at + n))) >>= λ v. found v (at + n) (chaining type))) (sym (g .1)))
+
+-- no LENGTH is below the least
+least-taken : (ns : Lengths) (n : ℕ) → (ns takes n) ≡ true → ns .least ≤ n
+least-taken ns n e = leb-true _ _ (first-of _ _ (first-of _ _ e))
+
+-- a type whose LENGTHs begin with 4 has two bytes of parameters
+pub two-there : (code key n : ℕ) → code ≡ key → lengthsOf key .least ≡ 4 → (lengthsOf code takes (2 + n)) ≡ true → 2 ≤ n
+two-there code key n e four t = omega (arith, least-taken (lengthsOf code) (2 + n) t, ap (λ k. lengthsOf k .least) e ∙ four)
 
 -- ---- a type of no row
 

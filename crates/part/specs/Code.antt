@@ -1,5 +1,5 @@
 -- How the code's numbers stand for the rule book's values: what the contracts inside this crate cite, and no rule.
-use Prim.Native.Nat.{ℕ, zero, suc, _+_, _*_, _/_, _%_, _^_, _<_, _≤_}
+use Prim.Native.Nat.{ℕ, zero, suc, _+_, _-_, _*_, _/_, _%_, _^_, _<_, _≤_}
 use mathlib.Core.Path.{_≡_}
 use mathlib.Core.Bool.{Bool, true, not, _&&_, _||_}
 use mathlib.Core.List.{List, [], _∷_, _++_}
@@ -77,10 +77,10 @@ foundBy bytes (Run size) = found (Text (take size bytes)) size 0
 foundBy bytes (Sequence function from size chains) = valuesOf function (between bytes from size) >>= λ e. found e size chains
 foundBy bytes (Refused n) = verdict n (record { element = Text []; size = 0; chains = 0 })
 
--- it ends within so many bytes, and has one at least
+-- it ends within so many bytes, and has one at least; a sequence has a LENGTH of its type
 abbrev pub Within : ℕ → Read → Type 0
 Within most (Run size) = (0 < size) × (size ≤ most)
-Within most (Sequence function from size chains) = (from ≤ size) × ((0 < size) × ((size ≤ most) × (chains ≤ 1)))
+Within most (Sequence function from size chains) = (from ≤ size) × ((0 < size) × ((size ≤ most) × ((chains ≤ 1) × ((lengthsOf function takes (2 + (size - from))) ≡ true))))
 Within most (Refused n) = 0 < n
 
 -- ---- the working state: I, B, margin, increment, adjustment, direction, font, colour, variable space, suppression, chain, bytes used

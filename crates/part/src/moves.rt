@@ -6,7 +6,7 @@ ghost use Rattle.part.specs.Presenting.{moved};
 ghost use Rattle.part.specs.Code.{verdict, reached};
 ghost use Rattle.part.specs.Working.{absolute, relative, line};
 use super::text::Reached;
-use super::values::word_at;
+use super::values::word_of;
 use super::working::B;
 use super::working::I;
 use super::working::INCREMENT;
@@ -32,10 +32,10 @@ fn moved_by(n: u32, forth: u32, back: u32) -> Reached
 
 // AMI, AMB: I, or B, becomes the number.
 pub fn absolute_move(w: &mut [u32], axis: usize, p: &[u8]) -> u32
-    requires { ⌜ axis < length (now w) ⌝ }
+    requires { ⌜ (axis < length (now w)) × (2 ≤ length (now p)) ⌝ }
     ensures { λ r. ⌜ verdict r (now (w .exit)) ≡ absolute (now (w .entry)) axis (now (p .entry)) ⌝ }
 {
-    let v = word_at(p, 0, 0);
+    let v = word_of(p);
     if 0x7FFF < v {
         return 24;
     }
@@ -45,10 +45,10 @@ pub fn absolute_move(w: &mut [u32], axis: usize, p: &[u8]) -> u32
 
 // RMI, RMB: the signed number is added to I, or B.
 pub fn relative_move(w: &mut [u32], axis: usize, p: &[u8]) -> u32
-    requires { ⌜ axis < length (now w) ⌝ }
+    requires { ⌜ (axis < length (now w)) × (2 ≤ length (now p)) ⌝ }
     ensures { λ r. ⌜ verdict r (now (w .exit)) ≡ relative (now (w .entry)) axis (now (p .entry)) ⌝ }
 {
-    let v = word_at(p, 0, 0);
+    let v = word_of(p);
     let forth = (v + ORIGIN) % 65536;
     let to = moved_by(w[axis], forth, ORIGIN);
     if to.fault != 0 {

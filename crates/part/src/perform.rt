@@ -1,10 +1,12 @@
 // A control sequence performed: its values tested, and its effect on the working state and the records.
 ghost use mathlib.Core.Path.{_≡_};
-ghost use Prim.Native.Nat.{_<_};
+ghost use mathlib.Core.Bool.{true};
+ghost use Prim.Native.Nat.{_+_, _<_};
 ghost use lib.Dec.{eqb};
 ghost use lib.ListN.{length, getD};
 ghost use Rattle.part.specs.Numbers.{if_then_else_};
-ghost use Rattle.part.specs.Code.{verdict, stateOf, stateAfter, inked, repeating, performed, Ready};
+ghost use Rattle.part.specs.Types.{_takes_};
+ghost use Rattle.part.specs.Code.{verdict, lengthsOf, stateOf, stateAfter, inked, repeating, performed, Ready};
 use super::moves::absolute_move;
 use super::moves::begin_line;
 use super::moves::relative_move;
@@ -61,7 +63,7 @@ pub fn perform(
     d: Descriptor,
     w: &mut [u32],
 ) -> u32
-    requires { ⌜ Ready (now widths) (now area) (now w) × (length (now p) < 65536) ⌝ }
+    requires { ⌜ Ready (now widths) (now area) (now w) × ((length (now p) < 65536) × ((lengthsOf function takes (2 + length (now p))) ≡ true)) ⌝ }
     ensures { λ r. ⌜ (verdict r (stateOf (now (w .exit))) ≡ stateAfter (performed (now (widths .entry)) d (stateOf (now (w .entry))) function (now (p .entry)))) × (now (area .exit) ≡ inked (now (area .entry)) (getD (now (w .entry)) 11 0) (performed (now (widths .entry)) d (stateOf (now (w .entry))) function (now (p .entry)))) ⌝ }
 {
     match function {

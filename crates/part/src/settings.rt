@@ -1,6 +1,6 @@
 // Modal values, and suppressions.
 ghost use mathlib.Core.Path.{_≡_};
-ghost use Prim.Native.Nat.{_<_};
+ghost use Prim.Native.Nat.{_≤_, _<_};
 ghost use lib.ListN.{length};
 ghost use Rattle.part.specs.Ranges.{upTo, colours, _∈_};
 ghost use Rattle.part.specs.Code.{verdict};
@@ -10,6 +10,7 @@ use super::values::byte_at;
 use super::values::either;
 use super::values::or_default;
 use super::values::word_at;
+use super::values::word_of;
 use super::working::ADJUSTMENT;
 use super::working::COLOUR;
 use super::working::DIRECTION;
@@ -26,10 +27,10 @@ pub fn is_colour(v: u32) -> bool
 
 // SIM, SBI, SVI: a number up to `most`, or all ones for the other value.
 pub fn set_number(w: &mut [u32], at: usize, p: &[u8], most: u32, other: u32) -> u32
-    requires { ⌜ at < length (now w) ⌝ }
+    requires { ⌜ (at < length (now w)) × (2 ≤ length (now p)) ⌝ }
     ensures { λ r. ⌜ verdict r (now (w .exit)) ≡ setting (now (w .entry)) at (now (p .entry)) (upTo most) other ⌝ }
 {
-    let v = word_at(p, 0, 0);
+    let v = word_of(p);
     if either(v <= most, v == ONES) {
         w[at] = or_default(ONES, v, other);
         return 0;
@@ -39,10 +40,10 @@ pub fn set_number(w: &mut [u32], at: usize, p: &[u8], most: u32, other: u32) -> 
 
 // STC.
 pub fn set_color(w: &mut [u32], p: &[u8], other: u32) -> u32
-    requires { ⌜ length (now w) ≡ 12 ⌝ }
+    requires { ⌜ (length (now w) ≡ 12) × (2 ≤ length (now p)) ⌝ }
     ensures { λ r. ⌜ verdict r (now (w .exit)) ≡ setting (now (w .entry)) 7 (now (p .entry)) colours other ⌝ }
 {
-    let v = word_at(p, 0, 0);
+    let v = word_of(p);
     if either(is_colour(v), v == ONES) {
         w[COLOUR] = or_default(ONES, v, other);
         return 0;

@@ -1,7 +1,8 @@
 // Parameters: bytes, and numbers of two bytes.
 ghost use mathlib.Core.Path.{_≡_};
 ghost use mathlib.Core.Bool.{_&&_, _||_};
-ghost use Prim.Native.Nat.{_<_};
+ghost use Prim.Native.Nat.{_≤_, _<_};
+ghost use lib.ListN.{length};
 ghost use Rattle.part.specs.Numbers.{byte, word};
 ghost use Rattle.part.specs.Presenting.{default};
 
@@ -46,6 +47,14 @@ pub fn word_at(p: &[u8], at: usize, absent: u8) -> u32
         return wide_byte(p[at]) * 256 + wide_byte(p[next]);
     }
     byte_at(p, at, absent) * 256 + wide_byte(absent)
+}
+
+// The two bytes that parameters begin with, where they are known to be there.
+pub fn word_of(p: &[u8]) -> u32
+    requires { ⌜ 2 ≤ length (now p) ⌝ }
+    ensures { λ r. ⌜ (r ≡ word 0 (now (p .entry)) 0) × (r < 65536) ⌝ }
+{
+    wide_byte(p[0]) * 256 + wide_byte(p[1])
 }
 
 // All ones mean the other value.

@@ -5,11 +5,11 @@ use borrow.Author.Tests.{le-leb, lt-leb}
 use Rattle.part.proofs.moves.absolute_move.Statement.{statement}
 use Rattle.part.proofs.moves.absolute_move.Tie as tie
 
-word-at-requires : tie.Need-word-at-requires
-word-at-requires c κs = search needs
+word-of-requires : tie.Need-word-of-requires
+word-of-requires c κs = search needs
 
 returns : tie.Need-returns
-returns c = rw (← c .before .word-at .ensures .0, lt-leb _ _ (c .if1 .taken))
+returns c = rw (← c .before .word-of .ensures .0, lt-leb _ _ (c .if1 .taken))
 
 add-w : tie.Need-add-w
 add-w c = search needs
@@ -24,8 +24,8 @@ same-length : tie.Need-same-length
 same-length c = search needs
 
 returns-2 : tie.Need-returns-2
-returns-2 c = rw (← c .before .word-at .ensures .0, le-leb _ _ (c .if1 .left))
+returns-2 c = rw (← c .before .word-of .ensures .0, le-leb _ _ (c .if1 .left))
 
 pub absolute-move-spec : {M : Type 1} → statement M
 absolute-move-spec =
-    tie.close (tie.spec word-at-requires returns add-w mul-w slice-write-w same-length returns-2)
+    tie.close (tie.spec word-of-requires returns add-w mul-w slice-write-w same-length returns-2)

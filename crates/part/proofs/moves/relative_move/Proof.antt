@@ -5,8 +5,8 @@ use borrow.Author.Needs.{needs}
 use Rattle.part.proofs.moves.relative_move.Statement.{statement}
 use Rattle.part.proofs.moves.relative_move.Tie as tie
 
-word-at-requires : tie.Need-word-at-requires
-word-at-requires c κs = search needs
+word-of-requires : tie.Need-word-of-requires
+word-of-requires c κs = search needs
 
 add-forth : tie.Need-add-forth
 add-forth c = search needs
@@ -21,7 +21,7 @@ moved-by-requires : tie.Need-moved-by-requires
 moved-by-requires c κs = search needs
 
 returns : tie.Need-returns
-returns c = rw (← c .before .before .before .before .word-at .ensures .0, ← c .before .before .moved-by .ensures .0) (refused _ _ _ _ (c .if1 .taken))
+returns c = rw (← c .before .before .before .before .word-of .ensures .0, ← c .before .before .moved-by .ensures .0) (refused _ _ _ _ (c .if1 .taken))
 
 cast-w : tie.Need-cast-w
 cast-w c = search needs
@@ -36,13 +36,13 @@ same-length : tie.Need-same-length
 same-length c = search needs
 
 returns-2 : tie.Need-returns-2
-returns-2 c = rw (← c .before .before .before .before .before .word-at .ensures .0, ← c .before .before .before .moved-by .ensures .0, c .before .if1 .left)
+returns-2 c = rw (← c .before .before .before .before .before .word-of .ensures .0, ← c .before .before .before .moved-by .ensures .0, c .before .if1 .left)
 
 pub relative-move-spec : {M : Type 1} → statement M
 relative-move-spec =
     tie.close
     (tie.spec
-    word-at-requires
+    word-of-requires
     add-forth
     mul-moved-by
     slice-read-moved-by

@@ -1,51 +1,75 @@
 -- `part::perform::perform` meets its contract: a law for each type says what its sequence comes to.
 -- Assumes nothing.
 use Rattle.part.proofs.Arms.{plainly, arm-AMI, arm-AMB, arm-RMI, arm-RMB, arm-BLN, arm-SIM, arm-SBI, arm-SIA, arm-SVI, arm-SCFL, arm-STC, arm-STO, arm-BSU, arm-ESU, arm-rules, arm-TRN, arm-RPS}
-use Rattle.part.proofs.Rows.{no-row}
+use Rattle.part.proofs.Rows.{no-row, two-there}
 use Rattle.part.specs.Code.{stateOf}
 use Rattle.part.specs.Part.{placed}
 use Rattle.part.specs.Place.{place}
 use Rattle.part.specs.Types.{types}
 use borrow.Author.Needs.{needs}
 use denote.Ref.{now}
-use lib.ListN.{getD}
+use lib.ListN.{length, getD}
 use mathlib.Core.Logic.{inl, inr}
 use mathlib.Core.Path.{refl}
 use Rattle.part.proofs.perform.perform.Statement.{statement}
 use Rattle.part.proofs.perform.perform.Tie as tie
 
 absolute-move-requires : tie.Need-absolute-move-requires
-absolute-move-requires c κs = search needs
+unfolding types
+absolute-move-requires c κs =
+    let st = c .before .before .before .before .before .before in
+    (search needs, two-there (st .args .function) 0xC6 (length (now (st .args .p))) (c .before .match .keys1) refl (st .pre .1 .1))
 
 absolute-move-requires-2 : tie.Need-absolute-move-requires-2
-absolute-move-requires-2 c κs = search needs
+unfolding types
+absolute-move-requires-2 c κs =
+    let st = c .before .before .before .before .before .before in
+    (search needs, two-there (st .args .function) 0xD2 (length (now (st .args .p))) (c .before .match .keys2) refl (st .pre .1 .1))
 
 relative-move-requires : tie.Need-relative-move-requires
-relative-move-requires c κs = search needs
+unfolding types
+relative-move-requires c κs =
+    let st = c .before .before .before .before .before .before in
+    (search needs, two-there (st .args .function) 0xC8 (length (now (st .args .p))) (c .before .match .keys3) refl (st .pre .1 .1))
 
 relative-move-requires-2 : tie.Need-relative-move-requires-2
-relative-move-requires-2 c κs = search needs
+unfolding types
+relative-move-requires-2 c κs =
+    let st = c .before .before .before .before .before .before in
+    (search needs, two-there (st .args .function) 0xD4 (length (now (st .args .p))) (c .before .match .keys4) refl (st .pre .1 .1))
 
 begin-line-requires : tie.Need-begin-line-requires
 begin-line-requires c κs = search needs
 
 set-number-requires : tie.Need-set-number-requires
-set-number-requires c κs = search needs
+unfolding types
+set-number-requires c κs =
+    let st = c .before .before .before .before .before .before in
+    (search needs, two-there (st .args .function) 0xC0 (length (now (st .args .p))) (c .before .match .keys6) refl (st .pre .1 .1))
 
 set-number-requires-2 : tie.Need-set-number-requires-2
-set-number-requires-2 c κs = search needs
+unfolding types
+set-number-requires-2 c κs =
+    let st = c .before .before .before .before .before .before in
+    (search needs, two-there (st .args .function) 0xD0 (length (now (st .args .p))) (c .before .match .keys7) refl (st .pre .1 .1))
 
 set-adjustment-requires : tie.Need-set-adjustment-requires
 set-adjustment-requires c κs = search needs
 
 set-number-requires-3 : tie.Need-set-number-requires-3
-set-number-requires-3 c κs = search needs
+unfolding types
+set-number-requires-3 c κs =
+    let st = c .before .before .before .before .before .before in
+    (search needs, two-there (st .args .function) 0xC4 (length (now (st .args .p))) (c .before .match .keys9) refl (st .pre .1 .1))
 
 set-font-requires : tie.Need-set-font-requires
 set-font-requires c κs = search needs
 
 set-color-requires : tie.Need-set-color-requires
-set-color-requires c κs = search needs
+unfolding types
+set-color-requires c κs =
+    let st = c .before .before .before .before .before .before in
+    (search needs, two-there (st .args .function) 0x74 (length (now (st .args .p))) (c .before .match .keys11) refl (st .pre .1 .1))
 
 orientation-requires : tie.Need-orientation-requires
 orientation-requires c κs = search needs

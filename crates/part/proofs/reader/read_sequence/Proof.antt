@@ -1,14 +1,14 @@
 -- `part::reader::read_sequence` meets its contract: at each return the tests on the way decide the rule's, in the same order.
 -- Assumes nothing.
-use Prim.Native.Nat.{_+_}
-use mathlib.Core.Path.{refl}
+use Prim.Native.Nat.{_+_, _-_}
+use mathlib.Core.Path.{_≡_, refl}
 use native.Mathlib.Omega.{arith}
 use borrow.Author.Needs.{needs}
 use borrow.Author.Tests.{le-leb, lt-leb}
 use denote.Ref.{now}
-use lib.ListN.{length}
+use lib.ListN.{length, getD}
 use Rattle.part.specs.Reading.{sequence}
-use Rattle.part.proofs.Rows.{misfitted, counted, fitted}
+use Rattle.part.proofs.Rows.{misfitted, counted, taken, fitted}
 use Rattle.part.proofs.reader.read_sequence.Statement.{statement}
 use Rattle.part.proofs.reader.read_sequence.Tie as tie
 
@@ -68,7 +68,9 @@ returns-4 c =
     let i = m .before .before .before .before in
     let a = i .before .before .args in
     let long = counted (a .at) (now (a .bytes)) (i .if1 .left) _ (m .if2 .left) (m .before .misfit .ensures) in
-    rw (fitted (a .at) (now (a .bytes)) (i .if1 .left) _ (m .if2 .left) (m .before .misfit .ensures), le-leb _ _ (c .before .before .if3 .left), c .before .split .ensures) (refl, search (needs, long))
+    let n = getD (now (a .bytes)) (a .at) 0 in
+    let same : 2 + (a .at + n - (a .at + 2)) ≡ n = omega arith in
+    rw (fitted (a .at) (now (a .bytes)) (i .if1 .left) _ (m .if2 .left) (m .before .misfit .ensures), le-leb _ _ (c .before .before .if3 .left), c .before .split .ensures) (refl, (search (needs, long), (search (needs, long), (search needs, (search needs, rw same (taken (a .at) (now (a .bytes)) (i .if1 .left) _ (m .if2 .left) (m .before .misfit .ensures)))))))
 
 pub read-sequence-spec : {M : Type 1} → statement M
 read-sequence-spec =

@@ -324,7 +324,7 @@ perform-requires c κs =
     let z : length rest ≡ length part - at = ap length tail ∙ length-drop at part in
     let x = c .before .before .before .before .found3 .given .0 in
     let n = length-take-le (x .1 .1 .0 - x .1 .0) (drop (x .1 .0) rest) (omega (arith, length-drop (x .1 .0) rest, inside .1 .1 .0)) in
-    (here .ready, omega (arith, n, inside .1 .1 .0, z, st .pre .1 .1 .1))
+    (here .ready, (omega (arith, n, inside .1 .1 .0, z, st .pre .1 .1 .1), rw n (inside .1 .1 .1 .1)))
 
 same-length-5 : tie.Need-same-length-5 Inv-loop μ-loop
 same-length-5 c = search needs

@@ -5,8 +5,8 @@ use mathlib.Core.Path.{sym, _∙_}
 use Rattle.part.proofs.settings.set_color.Statement.{statement}
 use Rattle.part.proofs.settings.set_color.Tie as tie
 
-word-at-requires : tie.Need-word-at-requires
-word-at-requires c κs = search needs
+word-of-requires : tie.Need-word-of-requires
+word-of-requires c κs = search needs
 
 is-colour-requires : tie.Need-is-colour-requires
 is-colour-requires c κs = search needs
@@ -24,16 +24,16 @@ same-length : tie.Need-same-length
 same-length c = search needs
 
 returns : tie.Need-returns
-returns c = rw (← c .before .before .before .before .word-at .ensures .0, ← c .before .before .before .is-colour .ensures, sym (c .before .before .either .ensures) ∙ c .before .if1 .taken, c .or-default .ensures)
+returns c = rw (← c .before .before .before .before .word-of .ensures .0, ← c .before .before .before .is-colour .ensures, sym (c .before .before .either .ensures) ∙ c .before .if1 .taken, c .or-default .ensures)
 
 returns-2 : tie.Need-returns-2
-returns-2 c = rw (← c .before .before .before .word-at .ensures .0, ← c .before .before .is-colour .ensures, sym (c .before .either .ensures) ∙ c .if1 .left)
+returns-2 c = rw (← c .before .before .before .word-of .ensures .0, ← c .before .before .is-colour .ensures, sym (c .before .either .ensures) ∙ c .if1 .left)
 
 pub set-color-spec : {M : Type 1} → statement M
 set-color-spec =
     tie.close
     (tie.spec
-    word-at-requires
+    word-of-requires
     is-colour-requires
     either-requires
     or-default-requires
