@@ -136,9 +136,23 @@ fn some(times: u64, make: impl Fn(&mut Rng) -> Part) -> Vec<Case> {
     (0..times).map(|seed| Case::on_sheet(make(&mut Rng::new(seed)).bytes())).collect()
 }
 
+/// The same in a font of many widths, as most are.
+fn proportional(cases: Vec<Case>) -> Vec<Case> {
+    let widths: Vec<u16> = (0..WIDTHS).map(|at| 60 + (at as u16 * 37) % 83).collect();
+    cases.into_iter().map(|case| Case::with(case.part, widths.clone(), case.descriptor)).collect()
+}
+
 /// Dense text.
 fn text() -> Vec<Workload> {
     vec![
+        Workload::new(
+            "text: 40 lines of 85, free runs, many widths",
+            proportional(some(40, |rng| write::lines(rng, 40, 85))),
+        ),
+        Workload::new(
+            "text: 40 TRN of 85, many widths",
+            proportional(some(40, |rng| write::trn(rng, 40, 85, None, None))),
+        ),
         Workload::new("text: 40 lines of 85, free runs", some(40, |rng| write::lines(rng, 40, 85))),
         Workload::new("text: 40 TRN of 85", some(40, |rng| write::trn(rng, 40, 85, None, None))),
         Workload::new(
