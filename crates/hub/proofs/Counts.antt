@@ -11,7 +11,8 @@ use lib.ListN.{length}
 use Rattle.part.specs.Numbers.{if_then_else_}
 use Rattle.hub.specs.Entries.{isOpen}
 use Rattle.hub.specs.Requests.{isTable, openJobs, countOpen}
-use Rattle.hub.specs.Code.{tallied, talliedAll}
+use Rattle.hub.specs.Code.{tallied}
+use Rattle.hub.proofs.Scan.{talliedAll}
 use Rattle.hub.specs.declared.jobs.Entry.{Entry}
 use Rattle.hub.proofs.Cases.{hit, miss}
 

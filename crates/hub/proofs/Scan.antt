@@ -46,7 +46,6 @@ use denote.Struct.Laws as LL
 use denote.Triple.Statement.{Contract, Triple}
 use Rattle.hub.specs.declared.jobs.Entry.{Entry}
 use Rattle.hub.specs.Entries.{fresh}
-use Rattle.hub.specs.Code.{talliedAll}
 use Rattle.hub.proofs.jobs.Entry as E
 use Rattle.hub.proofs.jobs.Entry.Laws as E′
 use Rattle.hub.proofs.Steps.{at, tests, number, constant, guards, result}
@@ -78,6 +77,11 @@ abbrev pub upto : (Entry → ℕ → ℕ) → ℕ → ℕ → List Entry → ℕ
 upto f n zero ys = n
 upto f n (suc i) [] = n
 upto f n (suc i) (y ∷ ys) = upto f (f y n) i ys
+
+-- and at all of them
+abbrev pub talliedAll : (Entry → ℕ → ℕ) → ℕ → List Entry → ℕ
+talliedAll f n [] = n
+talliedAll f n (e ∷ es) = talliedAll f (f e n) es
 
 pub upto-all : (f : Entry → ℕ → ℕ) (n : ℕ) (ys : List Entry) → upto f n (length ys) ys ≡ talliedAll f n ys
 upto-all f n [] = refl
