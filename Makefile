@@ -38,7 +38,7 @@ page: listing
 	@echo "build/page.svg shows $(PART)"
 
 # a part as its elements, by what the library answers for each
-elements: lib
+elements:
 	@tools/elements/build
 	@. tools/x86_64.sh && python3 tools/elements --run "$$RUN" "$(PART)"
 
