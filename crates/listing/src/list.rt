@@ -64,7 +64,7 @@ pub fn list(part: &[u8], out: &mut [u8]) -> usize
     ensures { λ r. ⌜ take r (now (out .exit)) ≡ listing (now (part .entry)) ⌝ }
 {
     let mut area = [0u8; 4096];
-    let r = on_sheet(part, 144, &mut area, fresh());
+    let r = on_sheet(part, 144, 240, &mut area, fresh(240));
     let to = put_part(out, 0, part.len());
     if r.answer.code != 0 {
         return put_refused(out, to, r);

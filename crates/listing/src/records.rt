@@ -3,26 +3,16 @@ ghost use mathlib.Core.Path.{_≡_};
 ghost use Prim.Native.Nat.{_+_, _*_, _≤_, _<_};
 ghost use lib.ListN.{length};
 ghost use lib.Seq.{sets};
-ghost use Rattle.part.specs.Records.{littleAt, isWhole};
 ghost use Rattle.listing.specs.Listing.{plainAt, signedAt, textNumbers, ruleNumbers, textLine, ruleLine, recordLine, recordLines};
 use super::text::MIDDLE;
 use super::text::put_characters;
 use super::text::put_fields;
 use super::text::put_line;
-use part::values::both;
-use part::values::byte_at;
-use part::values::either;
 use part::values::wide;
+use part::whole::is_whole;
+use part::whole::little_at;
 
-// Two bytes, the lower first; beyond the end they count as 0.
-fn little_at(bytes: &[u8], k: usize) -> u32
-    requires { ⌜ k < 4096 ⌝ }
-    ensures { λ r. ⌜ (r ≡ littleAt (now (bytes .entry)) k) × (r < 65536) ⌝ }
-{
-    byte_at(bytes, k, 0) + 256 * byte_at(bytes, k + 1, 0)
-}
-
-// The same as a number to be put.
+// Two bytes of a record, as a number to be put.
 fn plain_at(r: &[u8], k: usize) -> u64
     requires { ⌜ k < 4096 ⌝ }
     ensures { λ n. ⌜ n ≡ plainAt (now (r .entry)) k ⌝ }
@@ -95,18 +85,6 @@ fn put_record(out: &mut [u8], at: usize, r: &[u8]) -> usize
         return put_text(out, at, r);
     }
     put_rule(out, at, r)
-}
-
-// Whether some bytes begin with a whole record.
-fn is_whole(bytes: &[u8]) -> bool
-    ensures { λ r. ⌜ r ≡ isWhole (now (bytes .entry)) ⌝ }
-{
-    let n = little_at(bytes, 0);
-    let kind = little_at(bytes, 2);
-    both(
-        either(both(kind == 1, 16 <= n), both(kind == 2, n == 16)),
-        wide(n) <= bytes.len(),
-    )
 }
 
 // The lines of some records, as long as they are whole.

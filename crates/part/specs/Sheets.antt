@@ -28,13 +28,13 @@ bytesFrom (suc most) n later = elim (eqb n 0) [ true ↦ later | false ↦ bytes
 abbrev pub hex : ℕ → List ℕ
 hex n = bytesFrom 16 n []
 
--- 12,240 by 15,840, increment 240, rule width 14, colour X'FF07', all else 0; and a fresh job
-abbrev pub descriptor : Descriptor
-descriptor = record {
+-- 12,240 by 15,840, some increment, rule width 14, colour X'FF07', all else 0; and a fresh job
+abbrev pub lined : ℕ → Descriptor
+lined increment = record {
   size = point 12240 15840;
   initial = point 0 0;
   margin = 0;
-  increment = 240;
+  increment = increment;
   adjustment = 0;
   direction = 0;
   font = 0;
@@ -43,8 +43,15 @@ descriptor = record {
   hidden = 0;
 }
 
+abbrev pub begun : ℕ → State
+begun increment = state (point origin origin) 0 increment 0 0 0 0xFF07 ones 0 0 0
+
+-- increment 240
+abbrev pub descriptor : Descriptor
+descriptor = lined 240
+
 abbrev pub fresh : State
-fresh = state (point origin origin) 0 240 0 0 0 0xFF07 ones 0 0 0
+fresh = begun 240
 
 -- all widths; the part before and its answer; the part and its answer; the place after it, and the characters that it shows
 pub record Sheet : Type 0 where

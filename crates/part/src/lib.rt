@@ -15,4 +15,5 @@ pub mod show;
 pub mod text;
 pub mod types;
 pub mod values;
+pub mod whole;
 pub mod working;

@@ -1,23 +1,23 @@
-// The sheet that the paper tries parts on: a job of its own for one part, with one width for all characters.
+// The sheet that the paper tries parts on, at some increment: a job of its own for one part, with one width for all characters.
 ghost use mathlib.Core.Path.{_≡_};
 ghost use lib.ListN.{replicate};
 ghost use Rattle.part.specs.Part.{interpreted, areaAfter};
-ghost use Rattle.part.specs.Sheets.{descriptor as theDescriptor, fresh as freshState};
+ghost use Rattle.part.specs.Sheets.{lined, begun};
 use super::interpret::interpret;
 use super::shapes::Descriptor;
 use super::shapes::Interpreted;
 use super::shapes::Point;
 use super::shapes::State;
 
-// 12,240 by 15,840, increment 240, rule width 14, colour X'FF07', all else 0.
-fn descriptor() -> Descriptor
-    ensures { λ r. ⌜ r ≡ theDescriptor ⌝ }
+// 12,240 by 15,840, rule width 14, colour X'FF07', all else 0.
+fn descriptor(increment: u32) -> Descriptor
+    ensures { λ r. ⌜ r ≡ lined increment ⌝ }
 {
     Descriptor {
         size: Point { i: 12240, b: 15840 },
         initial: Point { i: 0, b: 0 },
         margin: 0,
-        increment: 240,
+        increment,
         adjustment: 0,
         direction: 0,
         font: 0,
@@ -28,13 +28,13 @@ fn descriptor() -> Descriptor
 }
 
 // The state of a fresh job under that descriptor.
-pub fn fresh() -> State
-    ensures { λ r. ⌜ r ≡ freshState ⌝ }
+pub fn fresh(increment: u32) -> State
+    ensures { λ r. ⌜ r ≡ begun increment ⌝ }
 {
     State {
         at: Point { i: 32768, b: 32768 },
         margin: 0,
-        increment: 240,
+        increment,
         adjustment: 0,
         direction: 0,
         font: 0,
@@ -47,10 +47,10 @@ pub fn fresh() -> State
 }
 
 // A part on that sheet, where the job stands at `s` and all widths are the same.
-pub fn on_sheet(part: &[u8], width: u16, area: &mut [u8], s: State) -> Interpreted
-    ensures { λ r. ⌜ r ≡ interpreted (replicate 1024 width) theDescriptor s (now (part .entry)) (now (area .entry)) ⌝ }
-    ensures { λ r. ⌜ now (area .exit) ≡ areaAfter (replicate 1024 width) theDescriptor s (now (part .entry)) (now (area .entry)) ⌝ }
+pub fn on_sheet(part: &[u8], width: u16, increment: u32, area: &mut [u8], s: State) -> Interpreted
+    ensures { λ r. ⌜ r ≡ interpreted (replicate 1024 width) (lined increment) s (now (part .entry)) (now (area .entry)) ⌝ }
+    ensures { λ r. ⌜ now (area .exit) ≡ areaAfter (replicate 1024 width) (lined increment) s (now (part .entry)) (now (area .entry)) ⌝ }
 {
     let widths = [width; 1024];
-    interpret(part, &widths, area, descriptor(), s)
+    interpret(part, &widths, area, descriptor(increment), s)
 }

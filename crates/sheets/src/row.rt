@@ -33,7 +33,7 @@ fn submit(hex: &[u8], width: u16, area: &mut [u8], s: State) -> Interpreted {
     let mut bytes = [0u8; 64];
     let n = decode(hex, 0, &mut bytes);
     show_part(&bytes[..n]);
-    on_sheet(&bytes[..n], width, area, s)
+    on_sheet(&bytes[..n], width, 240, area, s)
 }
 
 // An RPS whose count alone is printed.
@@ -41,7 +41,7 @@ fn submit_count(hex: &[u8], width: u16, area: &mut [u8], s: State) -> Interprete
     let mut bytes = [0u8; 64];
     let n = decode(hex, 0, &mut bytes);
     show_count(&bytes[..n]);
-    on_sheet(&bytes[..n], width, area, s)
+    on_sheet(&bytes[..n], width, 240, area, s)
 }
 
 // One part, and whether the paper marks it P.
@@ -49,7 +49,7 @@ pub fn sheet(mark: &[u8], hex: &[u8], beside: Beside) {
     let mut area = [0u8; 4096];
     say(b"| ");
     say(mark);
-    let r = submit(hex, 144, &mut area, fresh());
+    let r = submit(hex, 144, &mut area, fresh(240));
     say(b" | ");
     show_answer(r.answer);
     show_beside(beside, r.state, &area);
@@ -65,7 +65,7 @@ pub fn twice(hex: &[u8]) {
     say(b" twice | ");
     let end = decode(hex, n, &mut bytes);
     let mut area = [0u8; 4096];
-    let r = on_sheet(&bytes[..end], 144, &mut area, fresh());
+    let r = on_sheet(&bytes[..end], 144, 240, &mut area, fresh(240));
     show_answer(r.answer);
     say(b" |\n");
 }
@@ -74,7 +74,7 @@ pub fn twice(hex: &[u8]) {
 pub fn two_parts(hex: &[u8], next: &[u8], beside: Beside) {
     let mut area = [0u8; 4096];
     say(b"| ");
-    let a = submit(hex, 144, &mut area, fresh());
+    let a = submit(hex, 144, &mut area, fresh(240));
     say(b", next part ");
     let b = submit(next, 144, &mut area, a.state);
     say(b" | ");
@@ -87,12 +87,12 @@ pub fn two_parts(hex: &[u8], next: &[u8], beside: Beside) {
 pub fn no_widths(hex: &[u8], other: &[u8]) {
     let mut area = [0u8; 4096];
     say(b"With all widths 0, ");
-    let r = submit(hex, 0, &mut area, fresh());
+    let r = submit(hex, 0, &mut area, fresh(240));
     say(b" gives ");
     show_answer(r.answer);
     say(b"; ");
     let mut another = [0u8; 4096];
-    let o = submit_count(other, 0, &mut another, fresh());
+    let o = submit_count(other, 0, &mut another, fresh(240));
     say(b" gives ");
     show_number(o.answer.code);
     say(b".\n");

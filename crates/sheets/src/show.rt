@@ -1,13 +1,10 @@
 // Answers in the paper's words. Every number and byte comes from what the interpreter gave back.
-ghost use mathlib.Core.Path.{_≡_};
-ghost use Prim.Native.Nat.{_+_, _*_, _<_};
-ghost use Rattle.part.specs.Numbers.{byte};
 use super::hex::show_bytes;
 use libc::STDOUT_FILENO;
 use part::shapes::Answer;
 use part::shapes::State;
-use part::values::byte_at;
 use part::values::wide;
+use part::whole::little_at;
 
 const ORIGIN: u32 = 32768;
 
@@ -85,20 +82,12 @@ pub fn show_two(a: Answer, b: Answer) {
     show_answer(b);
 }
 
-// A number of a record, the lower byte first.
-fn number_at(area: &[u8], at: usize) -> usize
-    requires { ⌜ at < 4096 ⌝ }
-    ensures { λ r. ⌜ r ≡ byte 0 (now (area .entry)) at + byte 0 (now (area .entry)) (at + 1) * 256 ⌝ }
-{
-    wide(byte_at(area, at, 0) + byte_at(area, at + 1, 0) * 256)
-}
-
 // The characters of the area's first record, by its own length; none if it is no text.
 fn show_characters(area: &[u8]) {
-    if number_at(area, 2) != 1 {
+    if little_at(area, 2) != 1 {
         return;
     }
-    let length = number_at(area, 0);
+    let length = wide(little_at(area, 0));
     if length < 16 {
         return;
     }

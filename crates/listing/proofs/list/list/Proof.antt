@@ -73,7 +73,7 @@ put-records-requires c κs =
     let fits = used-fits part (c .before .before .before .before .before .before .before .before .before .before .on-sheet .result) _ (ran .0) (ran .1) (c .before .before .before .if1 .left) in
     let wide = c .before .before .wide .ensures .0 in
     let long = area-long part _ _ (ran .0) (ran .1) in
-    let size = length-take-le (c .before .before .wide .result) (c .before .before .before .before .before .before .before .before .before .before .on-sheet .last .1 .1 .0) (omega (arith, fits, long, wide)) in
+    let size = length-take-le (c .before .before .wide .result) (c .before .before .before .before .before .before .before .before .before .before .on-sheet .last .1 .1 .1 .0) (omega (arith, fits, long, wide)) in
     let first = line-length «PART» (plain (length part) ∷ []) in
     (omega (arith, size, fits, wide), omega (arith, size, fits, wide, first, c .before .before .before .before .before .before .before .put-part .ensures .0, c .before .before .before .before .before .before .before .put-part .kept .0))
 
@@ -85,9 +85,9 @@ put-end-requires c κs =
     let fits = used-fits part (c .before .before .before .before .before .before .before .before .before .before .before .before .before .before .on-sheet .result) _ (ran .0) (ran .1) (c .before .before .before .before .before .before .before .if1 .left) in
     let wide = c .before .before .before .before .before .before .wide .ensures .0 in
     let long = area-long part _ _ (ran .0) (ran .1) in
-    let size = length-take-le (c .before .before .before .before .before .before .wide .result) (c .before .before .before .before .before .before .before .before .before .before .before .before .before .before .on-sheet .last .1 .1 .0) (omega (arith, fits, long, wide)) in
+    let size = length-take-le (c .before .before .before .before .before .before .wide .result) (c .before .before .before .before .before .before .before .before .before .before .before .before .before .before .on-sheet .last .1 .1 .1 .0) (omega (arith, fits, long, wide)) in
     let first = line-length «PART» (plain (length part) ∷ []) in
-    omega (arith, size, fits, wide, first, c .before .before .before .before .before .before .before .before .before .before .before .put-part .ensures .0, c .before .before .before .before .before .before .before .before .before .before .before .put-part .kept .0, c .before .before .before .put-records .ensures .1, c .before .before .before .put-records .kept .0)
+    omega (arith, size, fits, wide, first, c .before .before .before .before .before .before .before .before .before .before .before .put-part .ensures .0, c .before .before .before .before .before .before .before .before .before .before .before .put-part .kept .0, c .before .before .before .put-records .ensures .1, c .before .before .before .put-records .kept .0, c .before .before .before .before .before .before .before .before .before .before .before .before .before .before .before .before .before .before .before .pre .1)
 
 same-length-2 : tie.Need-same-length-2
 same-length-2 c = search needs
@@ -98,7 +98,7 @@ returns-2 c =
     let part = now (a .part) in
     let ran = rw (c .before .before .before .before .before .before .before .before .before .before .before .before .before .before .before .before .before .before .fresh .ensures) at (c .before .before .before .before .before .before .before .before .before .before .before .before .before .before .before .before .before .on-sheet .ensures) in
     let r = c .before .before .before .before .before .before .before .before .before .before .before .before .before .before .before .before .before .on-sheet .result in
-    let area = c .before .before .before .before .before .before .before .before .before .before .before .before .before .before .before .before .before .on-sheet .last .1 .1 .0 in
+    let area = c .before .before .before .before .before .before .before .before .before .before .before .before .before .before .before .before .before .on-sheet .last .1 .1 .1 .0 in
     let fits = used-fits part r area (ran .0) (ran .1) (c .before .before .before .before .before .before .before .before .before .before .if1 .left) in
     let wide = c .before .before .before .before .before .before .before .before .before .wide .ensures .0 in
     let size = length-take-le (r .state .used) area (omega (arith, fits, area-long part _ _ (ran .0) (ran .1))) in

@@ -1,10 +1,10 @@
--- `host::check::halviruso_check` meets its contract: the code of what the sheet gives.
+-- `host::check::check_at` meets its contract: the code of what the sheet gives.
 -- Assumes nothing.
 use borrow.Author.Needs.{needs}
 use mathlib.Core.Path.{ap}
 use Rattle.part.specs.declared.shapes.Interpreted.{Interpreted}
-use Rattle.host.proofs.check.halviruso_check.Statement.{statement}
-use Rattle.host.proofs.check.halviruso_check.Tie as tie
+use Rattle.host.proofs.check.check_at.Statement.{statement}
+use Rattle.host.proofs.check.check_at.Tie as tie
 
 slice-aggregate-on-sheet : tie.Need-slice-aggregate-on-sheet
 slice-aggregate-on-sheet c = search needs
@@ -18,6 +18,6 @@ on-sheet-requires c κs = search needs
 returns : tie.Need-returns
 returns c = ap (λ (x : Interpreted). x .answer .code) (rw (c .before .before .fresh .ensures) at (c .before .on-sheet .ensures .0))
 
-pub halviruso-check-spec : {M : Type 1} → statement M
-halviruso-check-spec =
+pub check-at-spec : {M : Type 1} → statement M
+check-at-spec =
     tie.close (tie.spec slice-aggregate-on-sheet fresh-requires on-sheet-requires returns)

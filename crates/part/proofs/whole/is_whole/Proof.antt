@@ -1,8 +1,8 @@
--- `listing::records::is_whole` meets its contract: test by test.
+-- `part::whole::is_whole` meets its contract: test by test.
 -- Assumes nothing.
 use borrow.Author.Needs.{needs}
-use Rattle.listing.proofs.records.is_whole.Statement.{statement}
-use Rattle.listing.proofs.records.is_whole.Tie as tie
+use Rattle.part.proofs.whole.is_whole.Statement.{statement}
+use Rattle.part.proofs.whole.is_whole.Tie as tie
 
 little-at-requires : tie.Need-little-at-requires
 little-at-requires c κs = search needs
