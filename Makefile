@@ -28,7 +28,8 @@ build/libhalviruso.a: $(CODE) crates.txt tools/archive tools/x86_64.sh
 
 # target/bin/listing: the listing program
 listing:
-	rt check listing | tail -n 1
+	@[ -x target/bin/listing ] || echo 'proving the listing program: some three minutes, once'
+	@rt check listing | tail -n 1
 
 # build/page.svg: the sheet as the listing of a part has it; a refusal is marked on the part's bytes
 page: listing
