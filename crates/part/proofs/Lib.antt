@@ -29,3 +29,4 @@ pub mod Table
 pub mod Texts
 pub mod Turns
 pub mod Verdicts
+pub mod Words

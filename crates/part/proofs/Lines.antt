@@ -49,6 +49,18 @@ module _ (f : ℕ → ℕ) where
   unfolding sumOf
   sum-rest t k h = rw (add-one, drop-cons t k 0 h)
 
+  sum-two : (t : List ℕ) (k : ℕ) → k + 1 < length t → sumOf f (drop k t) ≡ f (getD t k 0) + (f (getD t (k + 1) 0) + sumOf f (drop (k + 2) t))
+  sum-two t k h =
+      let on : k + 1 + 1 ≡ k + 2 = omega arith in
+      sum-rest t k (omega arith) ∙ ap (λ s. f (getD t k 0) + s) (sum-rest t (k + 1) h ∙ ap (λ (n : ℕ). f (getD t (k + 1) 0) + sumOf f (drop n t)) on)
+
+  pub sum-four : (t : List ℕ) (k : ℕ) → k + 3 < length t → sumOf f (drop k t) ≡ f (getD t k 0) + (f (getD t (k + 1) 0) + (f (getD t (k + 2) 0) + (f (getD t (k + 3) 0) + sumOf f (drop (k + 4) t))))
+  sum-four t k h =
+      let third : k + 2 + 1 ≡ k + 3 = omega arith in
+      let on : k + 2 + 2 ≡ k + 4 = omega arith in
+      let rest = sum-two t (k + 2) (omega arith) ∙ ap (λ (n : ℕ). f (getD t (k + 2) 0) + (f (getD t n 0) + sumOf f (drop (k + 2 + 2) t))) third ∙ ap (λ (n : ℕ). f (getD t (k + 2) 0) + (f (getD t (k + 3) 0) + sumOf f (drop n t))) on in
+      sum-two t k (omega arith) ∙ ap (λ s. f (getD t k 0) + (f (getD t (k + 1) 0) + s)) rest
+
   pub sum-none : (t : List ℕ) (k : ℕ) → length t ≤ k → sumOf f (drop k t) ≡ 0
   unfolding sumOf
   sum-none t k h = rw (drop-of-length-le t h)

@@ -7,7 +7,7 @@ use native.Mathlib.Omega.{arith}
 use native.Mathlib.Numerals.{add-one}
 use native.Mathlib.Nat.{add-zero, add-suc, suc-add, le-of-lt, zero-add, zero-mod, mod-add-mod}
 use lib.ListN.{length, getD, take, drop, set, length-drop}
-use lib.Seq.{set-set, set-comm, sets, sets-eq, take-suc, take-all, take-at, drop-at, take-append-le, length-take-le, getD-take, getD-drop}
+use lib.Seq.{set-set, set-comm, sets, sets-eq, take-suc, take-all, take-add, take-at, drop-at, take-append-le, length-take-le, getD-take, getD-drop}
 use Rattle.part.specs.Text.{cycle}
 use Rattle.part.proofs.Cycles.{length-cycle, cycle-then, cycle-from}
 
@@ -29,6 +29,10 @@ module _ (a : List ℕ) (at : ℕ) (bytes : List ℕ) (k : ℕ) where
 pub more : (a b c : List ℕ) (i : ℕ) (xs ys : List ℕ) → b ≡ sets a i xs → c ≡ sets b (i + length xs) ys → c ≡ sets a i (xs ++ ys)
 more a b c i xs ys e f = rw (f, e) (joined a i xs ys)
 
+-- two runs that are known to be others
+pub both-known : (a b c : List ℕ) (i : ℕ) (xs ys us vs : List ℕ) → b ≡ sets a i xs → c ≡ sets b (i + length xs) ys → xs ≡ us → ys ≡ vs → c ≡ sets a i (us ++ vs)
+both-known a b c i xs ys us vs e f g h = more a b c i xs ys e f ∙ ap (λ l. sets a i (l ++ ys)) g ∙ ap (λ l. sets a i (us ++ l)) h
+
 -- ---- stores over earlier ones
 
 early : (a : List ℕ) (i j y : ℕ) (xs : List ℕ) → i < j → set (sets a j xs) i y ≡ sets (set a i y) j xs
@@ -40,6 +44,37 @@ overwritten a i [] ys h = refl
 overwritten a i (x ∷ xs) [] h = absurd (omega arith)
 overwritten a i (x ∷ xs) (y ∷ ys) h =
     ap (λ l. sets l (suc i) ys) (early (set a i x) i (suc i) y xs (omega arith) ∙ ap (λ l. sets l (suc i) xs) (set-set a i x y)) ∙ overwritten (set a i y) (suc i) xs ys (omega arith)
+
+-- ---- bytes of a list stored where they belong: behind those before them, or over some of these
+module _ (a : List ℕ) (at : ℕ) (bytes : List ℕ) where
+  behind : (k n : ℕ) → k ≤ length bytes → sets (sets a at (take k bytes)) (at + k) (take n (drop k bytes)) ≡ sets a at (take (k + n) bytes)
+  behind k n h =
+      ap (λ (m : ℕ). sets (sets a at (take k bytes)) (at + m) (take n (drop k bytes))) (sym (length-take-le k bytes h))
+      ∙ joined a at (take k bytes) (take n (drop k bytes))
+      ∙ ap (sets a at) (sym (take-add k n bytes))
+
+  -- some more
+  pub some-more : (k n : ℕ) (b c : List ℕ) → k ≤ length bytes → b ≡ sets a at (take k bytes) → c ≡ sets b (at + k) (take n (drop k bytes)) → c ≡ sets a at (take (k + n) bytes)
+  some-more k n b c h e f = f ∙ ap (λ l. sets l (at + k) (take n (drop k bytes))) e ∙ behind k n h
+
+  -- the last ones, some of them for the second time
+  pub all-more : (k n : ℕ) (b c : List ℕ) → n ≤ length bytes → k ≤ length bytes → length bytes ≤ k + n → b ≡ sets a at (take k bytes) → c ≡ sets b (at + (length bytes - n)) (take n (drop (length bytes - n) bytes)) → c ≡ sets a at bytes
+  all-more k n b c h g f e d =
+      let j = length bytes - n in
+      let last = drop j bytes in
+      let long = length-drop j bytes in
+      let less : length (take (k - j) last) ≡ k - j = length-take-le (k - j) last (omega arith) in
+      let most : length (take n last) ≡ n = length-take-le n last (omega arith) in
+      let split : j + (k - j) ≡ k = omega arith in
+      let whole : j + n ≡ length bytes = omega arith in
+      let before : b ≡ sets (sets a at (take j bytes)) (at + j) (take (k - j) last) =
+      e ∙ ap (λ (m : ℕ). sets a at (take m bytes)) (sym split) ∙ sym (behind j (k - j) (omega arith)) in
+      d
+      ∙ ap (λ l. sets l (at + j) (take n last)) before
+      ∙ overwritten (sets a at (take j bytes)) (at + j) (take (k - j) last) (take n last) (omega arith)
+      ∙ behind j n (omega arith)
+      ∙ ap (λ (m : ℕ). sets a at (take m bytes)) whole
+      ∙ ap (sets a at) (take-all (length bytes) bytes (omega arith))
 
 -- ---- what stands in an area, once more behind it
 

@@ -193,6 +193,11 @@ spacesIn = sumOf isSpace
 
 -- ---- records
 
+-- so many bytes of a number, the lower first
+abbrev pub lowFirst : ℕ → ℕ → List ℕ
+lowFirst zero v = []
+lowFirst (suc n) v = v % 256 ∷ lowFirst n (v / 256)
+
 abbrev pub headBytes : Head → List ℕ
 headBytes h =
     little (h .length) ++ little (h .kind) ++ little (h .i) ++ little (h .b)

@@ -1,5 +1,6 @@
 // Interprets one part of presentation text.
 pub mod interpret;
+pub mod little;
 pub mod moves;
 pub mod perform;
 pub mod presenting;

@@ -4,9 +4,11 @@ ghost use mathlib.Core.Logic.{_⊎_};
 ghost use Prim.Native.Nat.{_+_, _≤_, _<_};
 ghost use lib.ListN.{length, take, drop};
 ghost use lib.Seq.{sets};
-ghost use Rattle.part.specs.Numbers.{little};
 ghost use Rattle.part.specs.Text.{cycle};
 ghost use Rattle.part.specs.Code.{headBytes};
+use super::little::eight_at;
+use super::little::four_of;
+use super::little::put_eight;
 
 // The eight numbers that either kind of record begins with.
 pub struct Head {
@@ -20,31 +22,16 @@ pub struct Head {
     pub fourth: usize,
 }
 
-// Stores a number in two bytes, the lower first.
-fn put(area: &mut [u8], at: usize, v: usize)
-    requires { ⌜ at + 2 ≤ length (now area) ⌝ }
-    ensures { λ _. ⌜ now (area .exit) ≡ sets (now (area .entry)) at (little v) ⌝ }
-{
-    area[at] = (v % 256) as u8;
-    area[at + 1] = (v / 256 % 256) as u8;
-}
-
 // Stores a record's head.
 pub fn put_head(area: &mut [u8], at: usize, h: Head)
     requires { ⌜ at + 16 ≤ length (now area) ⌝ }
     ensures { λ _. ⌜ now (area .exit) ≡ sets (now (area .entry)) at (headBytes h) ⌝ }
 {
-    put(area, at, h.length);
-    put(area, at + 2, h.kind);
-    put(area, at + 4, h.i);
-    put(area, at + 6, h.b);
-    put(area, at + 8, h.first);
-    put(area, at + 10, h.second);
-    put(area, at + 12, h.third);
-    put(area, at + 14, h.fourth);
+    put_eight(area, at, four_of(h.length, h.kind, h.i, h.b));
+    put_eight(area, at + 8, four_of(h.first, h.second, h.third, h.fourth));
 }
 
-// Stores bytes.
+// Stores bytes, one by one.
 pub fn store(area: &mut [u8], at: usize, bytes: &[u8])
     requires { ⌜ at + length (now bytes) ≤ length (now area) ⌝ }
     ensures { λ _. ⌜ now (area .exit) ≡ sets (now (area .entry)) at (now (bytes .entry)) ⌝ }
@@ -54,6 +41,49 @@ pub fn store(area: &mut [u8], at: usize, bytes: &[u8])
         area[at + k] = bytes[k];
         k += 1;
     }
+}
+
+// Stores eight of some bytes, from number `k` on.
+fn move_eight(area: &mut [u8], to: usize, bytes: &[u8], k: usize)
+    requires { ⌜ (to + 8 ≤ length (now area)) × (k + 8 ≤ length (now bytes)) ⌝ }
+    ensures { λ _. ⌜ now (area .exit) ≡ sets (now (area .entry)) to (take 8 (drop k (now (bytes .entry)))) ⌝ }
+{
+    put_eight(area, to, eight_at(bytes, k));
+}
+
+// Stores sixteen: all are read before the first is stored, so that the back end need not know that they lie apart.
+fn move_sixteen(area: &mut [u8], to: usize, bytes: &[u8], k: usize)
+    requires { ⌜ (to + 16 ≤ length (now area)) × (k + 16 ≤ length (now bytes)) ⌝ }
+    ensures { λ _. ⌜ now (area .exit) ≡ sets (now (area .entry)) to (take 16 (drop k (now (bytes .entry)))) ⌝ }
+{
+    let low = eight_at(bytes, k);
+    let high = eight_at(bytes, k + 8);
+    put_eight(area, to, low);
+    put_eight(area, to + 8, high);
+}
+
+// Stores bytes by sixteens. The last eight are stored once more where they do not end a block, so that no byte goes by itself.
+pub fn store_text(area: &mut [u8], at: usize, bytes: &[u8])
+    requires { ⌜ at + length (now bytes) ≤ length (now area) ⌝ }
+    ensures { λ _. ⌜ now (area .exit) ≡ sets (now (area .entry)) at (now (bytes .entry)) ⌝ }
+{
+    let n = bytes.len();
+    if n < 8 {
+        store(area, at, bytes);
+        return;
+    }
+    let mut k: usize = 0;
+    while 16 <= n - k {
+        move_sixteen(area, at + k, bytes, k);
+        k += 16;
+    }
+    let last = n - 8;
+    if 8 < n - k {
+        move_eight(area, at + k, bytes, k);
+        move_eight(area, at + last, bytes, last);
+        return;
+    }
+    move_eight(area, at + last, bytes, last);
 }
 
 // Copies bytes of an area to further on in it.
@@ -94,7 +124,7 @@ pub fn draw(area: &mut [u8], at: usize, text: &[u8], count: usize)
     ensures { λ _. ⌜ now (area .exit) ≡ sets (now (area .entry)) at (cycle (now (text .entry)) 0 count) ⌝ }
 {
     if count <= text.len() {
-        store(area, at, &text[..count]);
+        store_text(area, at, &text[..count]);
         return;
     }
     store_rounds(area, at, text, count);

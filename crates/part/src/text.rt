@@ -2,7 +2,7 @@
 ghost use mathlib.Core.Path.{_≡_};
 ghost use mathlib.Core.Bool.{true};
 ghost use Prim.Native.Nat.{_+_, _*_, _≤_, _<_};
-ghost use lib.ListN.{length};
+ghost use lib.ListN.{length, getD, drop};
 ghost use Rattle.part.specs.Text.{cycle};
 ghost use Rattle.part.specs.Code.{reached, widthIn, along, rowWidths, isSpace, spacesIn, widthsOf, AtLeast, Fixed};
 use super::record::lesser;
@@ -33,6 +33,15 @@ fn is_space(c: u8) -> u32
     if c == 0x40 { 1 } else { 0 }
 }
 
+// A character's width in the font's row.
+fn own_width(row: &[u16], c: u8) -> usize
+    requires { ⌜ length (now row) ≡ 256 ⌝ }
+    ensures { λ r. ⌜ (r ≡ getD (now (row .entry)) c 0) × (r < 65536) ⌝ }
+{
+    let at = c as usize;
+    row[at] as usize
+}
+
 // The width of a character: of X'40' the line's, else that in the font's row. A product instead of a branch, which spaces would mislead.
 fn width(row: &[u16], space: usize, c: u8) -> usize
     requires { ⌜ (length (now row) ≡ 256) × (space < 4294967296) ⌝ }
@@ -44,14 +53,11 @@ fn width(row: &[u16], space: usize, c: u8) -> usize
     own * (1 - n) + space * n
 }
 
-// Whether a row has one width for all, as a font of fixed pitch has. Looked for only where text is long enough to gain by it.
-fn is_fixed(n: usize, row: &[u16]) -> bool
+// Whether a row has one width for all, as a font of fixed pitch has.
+fn is_fixed(row: &[u16]) -> bool
     requires { ⌜ length (now row) ≡ 256 ⌝ }
     ensures { λ r. ⌜ (r ≡ true → Fixed (now (row .entry))) ⌝ }
 {
-    if n < 64 {
-        return false;
-    }
     let first = row[0];
     if row[0x40] != first {
         return false;
@@ -67,32 +73,50 @@ fn is_fixed(n: usize, row: &[u16]) -> bool
     same
 }
 
-// The widths of some characters together, in the font's row alone, one after the other.
-fn row_sum(t: &[u8], row: &[u16]) -> usize
-    requires { ⌜ (length (now row) ≡ 256) × (length (now t) < 65536) ⌝ }
-    ensures { λ r. ⌜ (r ≡ rowWidths (now (row .entry)) (now (t .entry))) × (r ≤ 65536 * length (now (t .entry))) ⌝ }
+// The widths of the characters from number `from` on together, in the font's row alone, one after the other.
+fn row_sum(t: &[u8], from: usize, row: &[u16]) -> usize
+    requires { ⌜ (length (now row) ≡ 256) × ((length (now t) < 65536) × (from ≤ length (now t))) ⌝ }
+    ensures { λ r. ⌜ (r ≡ rowWidths (now (row .entry)) (drop from (now (t .entry)))) × (r + 65536 * from ≤ 65536 * length (now (t .entry))) ⌝ }
 {
     let mut sum: usize = 0;
-    let mut k: usize = 0;
+    let mut k = from;
     while k < t.len() {
-        let c = t[k] as usize;
-        sum += row[c] as usize;
+        sum += own_width(row, t[k]);
         k += 1;
     }
     sum
 }
 
-// The same; of a row with one width, a product.
+// Of all characters, four at a time.
+fn row_fours(t: &[u8], row: &[u16]) -> usize
+    requires { ⌜ (length (now row) ≡ 256) × (length (now t) < 65536) ⌝ }
+    ensures { λ r. ⌜ (r ≡ rowWidths (now (row .entry)) (now (t .entry))) × (r ≤ 65536 * length (now (t .entry))) ⌝ }
+{
+    let mut sum: usize = 0;
+    let mut k: usize = 0;
+    while 3 < t.len() - k {
+        sum += own_width(row, t[k]);
+        sum += own_width(row, t[k + 1]);
+        sum += own_width(row, t[k + 2]);
+        sum += own_width(row, t[k + 3]);
+        k += 4;
+    }
+    sum + row_sum(t, k, row)
+}
+
+// The same. Only where text is long is it worth a look whether the row has one width, which makes it a product.
 fn row_total(t: &[u8], row: &[u16]) -> usize
     requires { ⌜ (length (now row) ≡ 256) × (length (now t) < 65536) ⌝ }
     ensures { λ r. ⌜ (r ≡ rowWidths (now (row .entry)) (now (t .entry))) × (r ≤ 65536 * length (now (t .entry))) ⌝ }
 {
     let n = t.len();
-    if is_fixed(n, row) {
-        let all = row[0] as usize;
-        return n * all;
+    if n < 64 {
+        return row_sum(t, 0, row);
     }
-    row_sum(t, row)
+    if is_fixed(row) {
+        return n * own_width(row, 0);
+    }
+    row_fours(t, row)
 }
 
 // How many of some characters are X'40'.
@@ -123,18 +147,33 @@ fn total(t: &[u8], row: &[u16], space: usize) -> usize
     sum + n * space - n * own
 }
 
-// The widths of `count` characters of a text that begins again at its end: whole rounds, and a last part of one.
-fn cycle_total(t: &[u8], count: usize, row: &[u16], space: usize) -> usize
+// The same, one after the other: for what is left of a round.
+fn few_total(t: &[u8], row: &[u16], space: usize) -> usize
+    requires { ⌜ (length (now row) ≡ 256) × ((space < 4294967296) × (length (now t) < 65536)) ⌝ }
+    ensures { λ r. ⌜ (r ≡ widthsOf (now (row .entry)) space (now (t .entry))) × (r ≤ 4294967296 * length (now (t .entry))) ⌝ }
+{
+    let mut sum: usize = 0;
+    let mut k: usize = 0;
+    while k < t.len() {
+        sum += width(row, space, t[k]);
+        k += 1;
+    }
+    sum
+}
+
+// The widths of `count` characters of a text that begins again at its end, and that has `whole` in all: whole rounds, and a last part of one.
+fn cycle_total(t: &[u8], count: usize, whole: usize, row: &[u16], space: usize) -> usize
     requires { ⌜ (length (now row) ≡ 256) × ((space < 4294967296) × ((0 < length (now t)) × ((length (now t) < 65536) × (count < 65536)))) ⌝ }
+    requires { ⌜ (whole ≡ widthsOf (now row) space (now t)) × (whole ≤ 4294967296 * length (now t)) ⌝ }
     ensures { λ r. ⌜ (r ≡ widthsOf (now (row .entry)) space (cycle (now (t .entry)) 0 count)) × (r ≤ 4294967296 * count) ⌝ }
 {
     let n = t.len();
     if count == n {
-        return total(t, row, space);
+        return whole;
     }
     let rounds = count / n;
     let rest = count % n;
-    rounds * total(t, row, space) + total(&t[..rest], row, space)
+    rounds * whole + few_total(&t[..rest], row, space)
 }
 
 // Character by character, 27 before 28.
@@ -195,9 +234,7 @@ fn least_width(t: &[u8], row: &[u16], space: usize) -> usize
     let mut least = space;
     let mut k: usize = 0;
     while k < t.len() {
-        let c = t[k] as usize;
-        let own = row[c] as usize;
-        least = lesser(least, own);
+        least = lesser(least, own_width(row, t[k]));
         k += 1;
     }
     least
@@ -208,22 +245,23 @@ fn narrowest(t: &[u8], row: &[u16], space: usize) -> usize
     requires { ⌜ length (now row) ≡ 256 ⌝ }
     ensures { λ r. ⌜ AtLeast (widthIn (now (row .entry)) space) r (now (t .entry)) ⌝ }
 {
-    let n = t.len();
-    if is_fixed(n, row) {
-        let all = row[0] as usize;
-        return lesser(space, all);
+    if 64 <= t.len() {
+        if is_fixed(row) {
+            return lesser(space, own_width(row, 0));
+        }
     }
     least_width(t, row, space)
 }
 
 // A text from which an adjustment is subtracted. Where no character is narrower than that, I does not fall here either.
-fn present_back(t: &[u8], row: &[u16], l: Line, start: usize) -> Reached
+fn present_back(t: &[u8], whole: usize, row: &[u16], l: Line, start: usize) -> Reached
     requires { ⌜ (length (now row) ≡ 256) × ((l .space < 4294967296) × ((l .limit < 8589934592) × ((l .plus < 4294967296) × ((l .minus < 4294967296) × ((start < 4294967296) × (length (now t) < 65536)))))) ⌝ }
+    requires { ⌜ (whole ≡ widthsOf (now row) (l .space) (now t)) × (whole ≤ 4294967296 * length (now t)) ⌝ }
     ensures { λ r. ⌜ (reached r ≡ along (now (row .entry)) l start (now (t .entry))) × (r .at < 4294967296) ⌝ }
 {
     if l.minus <= narrowest(t, row, l.space) {
         let n = t.len();
-        let far = start + total(t, row, l.space) + n * l.plus;
+        let far = start + whole + n * l.plus;
         let end = far - n * l.minus;
         if end <= LAST {
             if !l.shown {
@@ -244,8 +282,9 @@ pub fn present(t: &[u8], count: usize, row: &[u16], l: Line, start: usize) -> Re
     requires { ⌜ (length (now row) ≡ 256) × ((l .space < 4294967296) × ((l .limit < 8589934592) × ((l .plus < 4294967296) × ((l .minus < 4294967296) × ((start < 4294967296) × ((0 < length (now t)) × ((length (now t) < 65536) × (count < 65536)))))))) ⌝ }
     ensures { λ r. ⌜ (reached r ≡ along (now (row .entry)) l start (cycle (now (t .entry)) 0 count)) × (r .at < 4294967296) ⌝ }
 {
+    let whole = total(t, row, l.space);
     if l.minus == 0 {
-        let end = start + cycle_total(t, count, row, l.space) + count * l.plus;
+        let end = start + cycle_total(t, count, whole, row, l.space) + count * l.plus;
         if end <= LAST {
             if !l.shown {
                 return Reached { fault: 0, at: end };
@@ -258,7 +297,7 @@ pub fn present(t: &[u8], count: usize, row: &[u16], l: Line, start: usize) -> Re
         }
     }
     if count == t.len() {
-        return present_back(t, row, l, start);
+        return present_back(t, whole, row, l, start);
     }
     walk_cycle(t, count, row, l, start)
 }

@@ -31,7 +31,7 @@ pub fn byte_at(p: &[u8], at: usize, absent: u8) -> u32
 }
 
 // A byte as a number of 32 bits.
-fn wide_byte(x: u8) -> u32
+pub fn wide_byte(x: u8) -> u32
     ensures { λ r. ⌜ (r ≡ x) × (r < 256) ⌝ }
 {
     x as u32

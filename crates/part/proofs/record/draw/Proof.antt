@@ -8,13 +8,13 @@ use mathlib.Core.Path.{sym, _∙_, ap}
 use Rattle.part.proofs.record.draw.Statement.{statement}
 use Rattle.part.proofs.record.draw.Tie as tie
 
-slice-aggregate-store : tie.Need-slice-aggregate-store
-slice-aggregate-store c =
+slice-aggregate-store-text : tie.Need-slice-aggregate-store-text
+slice-aggregate-store-text c =
     let a = c .before .before .before .before .before .args in
     sym (length-take-le (a .count) (now (a .text)) (c .before .before .if1 .taken))
 
-store-requires : tie.Need-store-requires
-store-requires c κs =
+store-text-requires : tie.Need-store-text-requires
+store-text-requires c κs =
     let a = c .before .before .before .before .before .args in
     rw (length-take-le (a .count) (now (a .text)) (c .before .before .if1 .taken)) (search needs)
 
@@ -24,7 +24,7 @@ same-length c = search needs
 returns : tie.Need-returns
 returns c =
     let a = c .before .before .before .before .before .before .before .before .args in
-    c .before .before .store .ensures ∙ ap (sets (now (a .area)) (a .at)) (sym (cycle-take (now (a .text)) (a .count) (c .before .before .before .before .before .if1 .taken)))
+    c .before .before .store-text .ensures ∙ ap (sets (now (a .area)) (a .at)) (sym (cycle-take (now (a .text)) (a .count) (c .before .before .before .before .before .if1 .taken)))
 
 store-rounds-requires : tie.Need-store-rounds-requires
 store-rounds-requires c κs = search needs
@@ -39,8 +39,8 @@ pub draw-spec : {M : Type 1} → statement M
 draw-spec =
     tie.close
     (tie.spec
-    slice-aggregate-store
-    store-requires
+    slice-aggregate-store-text
+    store-text-requires
     same-length
     returns
     store-rounds-requires

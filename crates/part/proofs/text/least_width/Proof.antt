@@ -19,22 +19,11 @@ abbrev μ-loop : tie.MeasureT-loop
 loop-holds : tie.Need-loop-holds Inv-loop μ-loop
 loop-holds c = (search needs, (search needs, λ j h. absurd (omega arith)))
 
-shared-slice-read-c : tie.Need-shared-slice-read-c Inv-loop μ-loop
-shared-slice-read-c c = search needs
+shared-slice-read-own-width : tie.Need-shared-slice-read-own-width Inv-loop μ-loop
+shared-slice-read-own-width c = search needs
 
-cast-c : tie.Need-cast-c Inv-loop μ-loop
-cast-c c = omega (arith, c .shared-slice-known3 .given (c .before .before .loop .k))
-
-mul-own : tie.Need-mul-own Inv-loop μ-loop
-mul-own c = omega (arith, c .shared-slice-known3 .given (c .before .before .loop .k))
-
-shared-slice-read-own : tie.Need-shared-slice-read-own Inv-loop μ-loop
-shared-slice-read-own c = omega (arith, c .before .shared-slice-known3 .given (c .before .before .before .loop .k))
-
-cast-own : tie.Need-cast-own Inv-loop μ-loop
-cast-own c =
-    let l = c .before .before .before in
-    omega (arith, c .shared-slice-known4 .given (getD (now (l .before .before .before .args .t)) (l .loop .k) 0))
+own-width-requires : tie.Need-own-width-requires Inv-loop μ-loop
+own-width-requires c κs = search needs
 
 lesser-requires : tie.Need-lesser-requires Inv-loop μ-loop
 lesser-requires c κs = search needs
@@ -50,7 +39,7 @@ loop-again c =
     let l = c .before .before .before .before in
     let a = l .before .before .before .args in
     let less = c .lesser .ensures in
-    (search needs, (omega (arith, less .0, l .loop .inv .1 .0), lower (λ j. getD (now (a .row)) (getD (now (a .t)) j 0) 0) (l .loop .k) _ _ (less .0) (less .1 .0) (l .loop .inv .1 .1)))
+    (search needs, (omega (arith, less .0, l .loop .inv .1 .0), lower (λ j. getD (now (a .row)) (getD (now (a .t)) j 0) 0) (l .loop .k) _ _ (less .0) (omega (arith, c .before .own-width .ensures .0, less .1 .0)) (l .loop .inv .1 .1)))
 
 returns : tie.Need-returns Inv-loop μ-loop
 returns c =
@@ -67,11 +56,8 @@ least-width-spec =
     Inv-loop
     μ-loop
     loop-holds
-    shared-slice-read-c
-    cast-c
-    mul-own
-    shared-slice-read-own
-    cast-own
+    shared-slice-read-own-width
+    own-width-requires
     lesser-requires
     add-k
     loop-less

@@ -5,51 +5,50 @@ use mathlib.Core.Path.{sym}
 use mathlib.Core.Logic.{inl, inr}
 use native.Mathlib.Nat.{mul-le-mul}
 use native.Mathlib.Omega.{arith}
-use borrow.Author.Needs.{needs}
 use borrow.Author.Tests.{not-true}
 use denote.Ref.{now}
 use lib.ListN.{length}
 use Rattle.part.proofs.Lines.{rising-far, rising-text}
+use borrow.Author.Needs.{needs}
 use Rattle.part.proofs.text.present_back.Statement.{statement}
 use Rattle.part.proofs.text.present_back.Tie as tie
 
 narrowest-requires : tie.Need-narrowest-requires
 narrowest-requires c κs = search needs
 
-total-requires : tie.Need-total-requires
-total-requires c κs = search needs
-
 add-far : tie.Need-add-far
 add-far c = search needs
 
 mul-far : tie.Need-mul-far
 mul-far c =
-    let a = c .before .before .before .before .before .before .before .args in
+    let a = c .before .before .before .before .before .before .args in
     let all : length (now (a .t)) * a .l .plus ≤ 65536 * 4294967296 = mul-le-mul {n₂ = 65536} {m₂ = 4294967296} (omega arith) (omega arith) in
     omega arith
 
 add-far-2 : tie.Need-add-far-2
 add-far-2 c =
-    let a = c .before .before .before .before .before .before .before .args in
+    let st = c .before .before .before .before .before .before in
+    let a = st .args in
     let all : length (now (a .t)) * a .l .plus ≤ 65536 * 4294967296 = mul-le-mul {n₂ = 65536} {m₂ = 4294967296} (omega arith) (omega arith) in
-    omega (arith, c .before .total .ensures .1)
+    omega (arith, st .pre .1 .1)
 
 mul-end : tie.Need-mul-end
 mul-end c =
-    let a = c .before .before .before .before .before .before .before .before .args in
+    let a = c .before .before .before .before .before .before .before .args in
     let all : length (now (a .t)) * a .l .minus ≤ 65536 * 4294967296 = mul-le-mul {n₂ = 65536} {m₂ = 4294967296} (omega arith) (omega arith) in
     omega arith
 
 sub-end : tie.Need-sub-end
 sub-end c =
-    let a = c .before .before .before .before .before .before .before .before .args in
-    rising-far (now (a .row)) (a .l) (now (a .t)) (a .start) _ _ (c .before .before .total .ensures .0) (c .before .before .before .before .before .narrowest .ensures) (c .before .before .before .if1 .taken)
+    let st = c .before .before .before .before .before .before .before in
+    let a = st .args in
+    rising-far (now (a .row)) (a .l) (now (a .t)) (a .start) _ _ (st .pre .1 .0) (c .before .before .before .before .narrowest .ensures) (c .before .before .if1 .taken)
 
 returns : tie.Need-returns
 returns c =
-    let t = c .before .before .before .before .before in
-    let a = c .before .before .before .before .before .before .before .before .before .before .before .args in
-    (sym (rising-text (now (a .row)) (a .l) (now (a .t)) (a .start) _ _ (t .total .ensures .0) (t .before .before .before .narrowest .ensures) (t .before .if1 .taken) (c .before .before .if2 .taken) (inl (not-true (a .l .shown) (c .if3 .taken)))), search needs)
+    let st = c .before .before .before .before .before .before .before .before .before .before in
+    let a = st .args in
+    (sym (rising-text (now (a .row)) (a .l) (now (a .t)) (a .start) _ _ (st .pre .1 .0) (c .before .before .before .before .before .before .before .narrowest .ensures) (c .before .before .before .before .before .if1 .taken) (c .before .before .if2 .taken) (inl (not-true (a .l .shown) (c .if3 .taken)))), search needs)
 
 add-if5 : tie.Need-add-if5
 add-if5 c = search needs
@@ -59,9 +58,9 @@ add-if5-2 c = search needs
 
 returns-2 : tie.Need-returns-2
 returns-2 c =
-    let t = c .before .before .before .before .before .before .before .before .before in
-    let a = c .before .before .before .before .before .before .before .before .before .before .before .before .before .before .before .args in
-    (sym (rising-text (now (a .row)) (a .l) (now (a .t)) (a .start) _ _ (t .total .ensures .0) (t .before .before .before .narrowest .ensures) (t .before .if1 .taken) (c .before .before .before .before .before .before .if2 .taken) (inr (c .before .before .before .if4 .taken, c .if5 .taken))), search needs)
+    let st = c .before .before .before .before .before .before .before .before .before .before .before .before .before .before in
+    let a = st .args in
+    (sym (rising-text (now (a .row)) (a .l) (now (a .t)) (a .start) _ _ (st .pre .1 .0) (c .before .before .before .before .before .before .before .before .before .before .before .narrowest .ensures) (c .before .before .before .before .before .before .before .before .before .if1 .taken) (c .before .before .before .before .before .before .if2 .taken) (inr (c .before .before .before .if4 .taken, c .if5 .taken))), search needs)
 
 walk-requires : tie.Need-walk-requires
 walk-requires c κs = search needs
@@ -74,7 +73,6 @@ present-back-spec =
     tie.close
     (tie.spec
     narrowest-requires
-    total-requires
     add-far
     mul-far
     add-far-2

@@ -12,31 +12,22 @@ use Rattle.part.proofs.text.row_sum.Statement.{statement}
 use Rattle.part.proofs.text.row_sum.Tie as tie
 
 abbrev Inv-loop : tie.InvT-loop
-Inv-loop t row sum₀ k₀ sum k = (k ≤ length t) × ((sum ≤ 65536 * k) × (sum + rowWidths row (drop k t) ≡ rowWidths row t))
+Inv-loop t from row sum₀ k₀ sum k = (k ≤ length t) × ((sum + 65536 * from ≤ 65536 * k) × (sum + rowWidths row (drop k t) ≡ rowWidths row (drop from t)))
 
 abbrev μ-loop : tie.MeasureT-loop
-μ-loop t row sum₀ k₀ sum k = length t - k
+μ-loop t from row sum₀ k₀ sum k = length t - k
 
 loop-holds : tie.Need-loop-holds Inv-loop μ-loop
 loop-holds c = search needs
 
-shared-slice-read-c : tie.Need-shared-slice-read-c Inv-loop μ-loop
-shared-slice-read-c c = search needs
+shared-slice-read-own-width : tie.Need-shared-slice-read-own-width Inv-loop μ-loop
+shared-slice-read-own-width c = search needs
 
-cast-c : tie.Need-cast-c Inv-loop μ-loop
-cast-c c = omega (arith, c .shared-slice-known .given (c .before .before .loop .k))
-
-mul-sum : tie.Need-mul-sum Inv-loop μ-loop
-mul-sum c = omega (arith, c .shared-slice-known .given (c .before .before .loop .k))
-
-shared-slice-read-sum : tie.Need-shared-slice-read-sum Inv-loop μ-loop
-shared-slice-read-sum c = omega (arith, c .before .shared-slice-known .given (c .before .before .before .loop .k))
-
-cast-sum : tie.Need-cast-sum Inv-loop μ-loop
-cast-sum c = omega (arith, c .shared-slice-known2 .given (getD (now (c .before .before .before .before .args .t)) (c .before .before .before .loop .k) 0))
+own-width-requires : tie.Need-own-width-requires Inv-loop μ-loop
+own-width-requires c κs = search needs
 
 add-sum : tie.Need-add-sum Inv-loop μ-loop
-add-sum c = omega (arith, c .shared-slice-known2 .given (getD (now (c .before .before .before .before .args .t)) (c .before .before .before .loop .k) 0))
+add-sum c = search needs
 
 add-k : tie.Need-add-k Inv-loop μ-loop
 add-k c = search needs
@@ -47,17 +38,16 @@ loop-less c = search needs
 loop-again : tie.Need-loop-again Inv-loop μ-loop
 loop-again c =
     let l = c .before .before .before in
-    let a = l .before .args in
-    let row = now (a .row) in
-    let rest = sum-rest (λ c. getD row c 0) (now (a .t)) (l .loop .k) (search needs) in
-    (search needs, (omega (arith, c .shared-slice-known2 .given (getD (now (a .t)) (l .loop .k) 0)), omega (arith, rest, l .loop .inv .1 .1)))
+    let a = l .before .before .before .args in
+    let own = c .own-width .ensures in
+    let rest = sum-rest (λ c. getD (now (a .row)) c 0) (now (a .t)) (l .loop .k) (search needs) in
+    (search needs, (omega (arith, own .1, l .loop .inv .1 .0), omega (arith, rest, own .0, l .loop .inv .1 .1)))
 
 returns : tie.Need-returns Inv-loop μ-loop
 returns c =
     let l = c .before in
-    let a = l .before .args in
-    let row = now (a .row) in
-    let none = sum-none (λ c. getD row c 0) (now (a .t)) (l .loop .k) (c .loop-test .left) in
+    let a = l .before .before .before .args in
+    let none = sum-none (λ c. getD (now (a .row)) c 0) (now (a .t)) (l .loop .k) (c .loop-test .left) in
     (omega (arith, none, l .loop .inv .1 .1), search needs)
 
 pub row-sum-spec : {M : Type 1} → statement M
@@ -67,11 +57,8 @@ row-sum-spec =
     Inv-loop
     μ-loop
     loop-holds
-    shared-slice-read-c
-    cast-c
-    mul-sum
-    shared-slice-read-sum
-    cast-sum
+    shared-slice-read-own-width
+    own-width-requires
     add-sum
     add-k
     loop-less

@@ -1,11 +1,11 @@
--- `part::record::put` meets its contract: two stores side by side.
+-- `part::little::put_two` meets its contract: two stores side by side.
 -- Assumes nothing.
 use native.Mathlib.Numerals.{add-one}
 use native.Mathlib.Omega.{arith}
-use borrow.Author.Needs.{needs}
 use lib.ListN.{length-set}
-use Rattle.part.proofs.record.put.Statement.{statement}
-use Rattle.part.proofs.record.put.Tie as tie
+use borrow.Author.Needs.{needs}
+use Rattle.part.proofs.little.put_two.Statement.{statement}
+use Rattle.part.proofs.little.put_two.Tie as tie
 
 cast-area : tie.Need-cast-area
 cast-area c = search needs
@@ -28,8 +28,8 @@ same-length c = search needs
 returns : tie.Need-returns
 returns c = rw add-one
 
-pub put-spec : {M : Type 1} → statement M
-put-spec =
+pub put-two-spec : {M : Type 1} → statement M
+put-two-spec =
     tie.close
     (tie.spec
     cast-area
