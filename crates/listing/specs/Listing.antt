@@ -7,7 +7,7 @@ use lib.ListN.{length, take, drop, replicate}
 use lib.Dec.{ltb, eqb}
 use Rattle.part.specs.Numbers.{if_then_else_, origin}
 use Rattle.part.specs.Records.{bytesOf, littleAt, isWhole}
-use Rattle.part.specs.Part.{placed, passed, elements, admitted, outcome, interpreted, areaAfter}
+use Rattle.part.specs.Part.{placed, passedBy, elementsBy, admitted, outcome, interpreted, areaAfter}
 use Rattle.part.specs.Ranges.{descriptorFields, stateFields}
 use Rattle.part.specs.Types.{types}
 use Rattle.part.specs.Reading.{sequence, element, cutFrom, cut}
@@ -113,5 +113,5 @@ example =
     ++ bytes 0x454E44203130303820343830 ++ bytes 0x20332031380A
 
 pub example-holds : listing (bytes 0x2BD304C702D004D201E0C1C2) ≡ example
-unfolding listing outcomeLines recordLines each digits descriptorFields stateFields types sequence element cutFrom cut bytesOf moved character charactersAlong cycle placeText placeRule place placed passed elements admitted outcome interpreted areaAfter
+unfolding listing outcomeLines recordLines each digits descriptorFields stateFields types sequence element cutFrom cut bytesOf moved character charactersAlong cycle placeText placeRule place placed passedBy elementsBy admitted outcome interpreted areaAfter
 example-holds = refl

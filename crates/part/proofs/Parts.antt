@@ -13,7 +13,7 @@ use Rattle.part.specs.Elements.{Element}
 use Rattle.part.specs.Reading.{Found, Piece}
 use Rattle.part.specs.Records.{Item, bytesOf, allBytes, room}
 use Rattle.part.specs.Place.{Effect, effect, place}
-use Rattle.part.specs.Part.{placed, passed, elements}
+use Rattle.part.specs.Part.{placed, passed, passedBy, elements, elementsBy}
 use Rattle.part.specs.declared.shapes.Descriptor.{Descriptor}
 use Rattle.part.specs.declared.shapes.State.{State}
 use Rattle.part.proofs.Checks.{Gives, value, refusal, gives-then, gives-where, gives-so, gives-at, value-of}
@@ -34,7 +34,7 @@ _then_ m f = m >>= λ e. f (e .state) >>= λ g. effect (g .state) (e .items ++ g
 module _ (widths : List ℕ) (d : Descriptor) where
   -- some elements, and then others
   pub elements-join : (s : State) (ps qs : List Piece) → elements widths d s (ps ++ qs) ≡ _then_ (elements widths d s ps) (λ t. elements widths d t qs)
-  unfolding elements
+  unfolding elementsBy
   elements-join s [] qs = same (elements widths d s qs)
     where
       same : (m : Checked Effect) → m ≡ (m >>= λ g. effect (g .state) ([] ++ g .items))
@@ -63,7 +63,7 @@ module _ (widths : List ℕ) (d : Descriptor) (R : State → Effect → Type 0) 
       → (s : State) (ps : List Piece)
       → Every (λ p. (s : State) → Gives (R s) Q (p .what >>= passed widths d s)) ps
       → Gives (R s) Q (elements widths d s ps)
-  unfolding elements
+  unfolding elementsBy
   elements-give start onward s [] none = value (start s)
   elements-give start onward s (p ∷ ps) (one also others) =
       gives-then (startingAt (p .at) (p .what >>= passed widths d s)) _ (gives-at (p .at) (p .what >>= passed widths d s) (one s)) λ e first.
@@ -107,7 +107,7 @@ module _ (widths : List ℕ) (d : Descriptor) where
       value (record { grows = two .0; fits = two .1 }, λ dh ok h. changed (stateFields (f .state)) 11 (u within upTo 4096) (one .kept dh ok h) (le-leb u 4096 (two .1 (used-fits s h))))
 
   pub passed-leaves : (s : State) (f : Found) → Gives (λ g. Grown s g × Kept d s (Ranged f) g) Coded (passed widths d s f)
-  unfolding passed stateFields
+  unfolding passedBy stateFields
   passed-leaves s f =
       gives-then (placed widths d s (f .element)) _ (placed-leaves s (f .element)) λ g one.
       value (record { grows = one .0 .grows; fits = one .0 .fits }, λ dh ok h. changed (stateFields (g .state)) 10 (f .chains within upTo 1) (one .1 dh (ok .fit) h) (le-leb (f .chains) 1 (ok .chains)))

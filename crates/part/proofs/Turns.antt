@@ -18,7 +18,7 @@ use Rattle.part.specs.Reading.{Found, Piece, piece, found, element, cutF
 use Rattle.part.specs.Records.{Item, allBytes}
 use Rattle.part.specs.Text.{cycle}
 use Rattle.part.specs.Place.{Effect, effect, place, placeText}
-use Rattle.part.specs.Part.{roomed, placed, passed, elements}
+use Rattle.part.specs.Part.{roomed, placed, passed, passedBy, elements, elementsBy}
 use Rattle.part.specs.Code.{verdict, stateOf, stateAfter, inked, performed, Ready, Leaves, Ran}
 use Rattle.part.specs.declared.shapes.Descriptor.{Descriptor}
 use Rattle.part.specs.declared.shapes.State.{State}
@@ -36,7 +36,7 @@ use Rattle.part.proofs.Reading.{reads-within}
 module _ (widths : List ℕ) (d : Descriptor) where
   stops : (k at chain : ℕ) (rest : List ℕ) (s : State) (code j : ℕ) → 0 < length rest → (element chain rest >>= passed widths d s) ≡ fault code j
       → elements widths d s (cutFrom (suc k) at chain rest) ≡ fault code (at + j)
-  unfolding elements
+  unfolding elementsBy
   stops k at chain rest s code j some h = go (element chain rest) refl h
     where
       go : (m : Checked Found) → element chain rest ≡ m → (m >>= passed widths d s) ≡ fault code j → elements widths d s (cutFrom (suc k) at chain rest) ≡ fault code (at + j)
@@ -45,7 +45,7 @@ module _ (widths : List ℕ) (d : Descriptor) where
 
   goes : (at : ℕ) (ps : List Piece) (s : State) (f : Found) (g : Effect) → passed widths d s f ≡ fine g
       → elements widths d s (piece at (fine f) ∷ ps) ≡ (elements widths d (g .state) ps >>= λ o. effect (o .state) (g .items ++ o .items))
-  unfolding elements
+  unfolding elementsBy
   goes at ps s f g q = rw (elements, q)
 
 cut-nil : (at chain : ℕ) (rest : List ℕ) → cutFrom 0 at chain rest ≡ []
@@ -69,11 +69,11 @@ pub record Step (widths : List ℕ) (d : Descriptor) (s : State) (chain : ℕ) (
 
 module _ (widths : List ℕ) (d : Descriptor) (s : State) (chain : ℕ) (rest : List ℕ) where
   pub run-step : (size : ℕ) → found (Text (take size rest)) size 0 ≡ element chain rest → Step widths d s chain rest size 0 (placed widths d s (Text (take size rest)))
-  unfolding passed
+  unfolding passedBy
   run-step size e = record { reads = λ g h. (_, sym e, refl, refl); leads = rw (← e) refl }
 
   pub sequence-step : (function size chains : ℕ) (p : List ℕ) → (valuesOf function p >>= λ e. found e size chains) ≡ element chain rest → Step widths d s chain rest size chains (performed widths d s function p)
-  unfolding passed
+  unfolding passedBy
   sequence-step function size chains p h = record { reads = reads; leads = rw (← h) (leads (valuesOf function p)) }
     where
       reads : (g : Effect) → performed widths d s function p ≡ fine g → (f : Found) × (element chain rest ≡ fine f) × (f .size ≡ size) × (f .chains ≡ chains)
@@ -210,7 +210,7 @@ module _ (widths : List ℕ) (d : Descriptor) (part w₀ area₀ area w : List �
   many = length (cut (getD w₀ 10 0) part)
 
   pub ended : length part ≤ at → Leaves all many (getD w₀ 11 0) area₀ count (stateOf w) area
-  unfolding elements
+  unfolding elementsBy
   ended h =
       let none : length part - at ≡ 0 = omega arith in
       let empty : rest-of part w at ≡ [] = rw none (cut-nil at (getD w 10 0) (drop at part)) in

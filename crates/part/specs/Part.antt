@@ -23,24 +23,32 @@ roomed s m = do
   used ← room (s .used) (done .items)
   effect (withUsed (done .state) used) (done .items)
 
+-- elements put in their places in some way
+module _ (put : State → Element → Checked Effect) where
+  -- one of them, and the chain as it leaves it
+  unfoldable pub passedBy : State → Found → Checked Effect
+  passedBy s f = do
+    done ← put s (f .element)
+    effect (withChain (done .state) (f .chains)) (done .items)
+
+  -- The part's elements in order. The first element at fault gives the answer.
+  unfoldable pub elementsBy : State → List Piece → Checked Effect
+  elementsBy s [] = effect s []
+  elementsBy s (p ∷ ps) = do
+    first ← startingAt (p .at) (p .what >>= passedBy s)
+    others ← elementsBy (first .state) ps
+    effect (others .state) (first .items ++ others .items)
+
 module _ (widths : List ℕ) (d : Descriptor) where
   -- an element placed, and last of all room for its records
   unfoldable pub placed : State → Element → Checked Effect
   placed s e = roomed s (place widths d s e)
 
-  -- the same, and the chain as the element leaves it
-  unfoldable pub passed : State → Found → Checked Effect
-  passed s f = do
-    done ← placed s (f .element)
-    effect (withChain (done .state) (f .chains)) (done .items)
+  abbrev pub passed : State → Found → Checked Effect
+  passed = passedBy placed
 
-  -- The part's elements in order. The first element at fault gives the answer.
-  unfoldable pub elements : State → List Piece → Checked Effect
-  elements s [] = effect s []
-  elements s (p ∷ ps) = do
-    first ← startingAt (p .at) (p .what >>= passed s)
-    others ← elements (first .state) ps
-    effect (others .state) (first .items ++ others .items)
+  abbrev pub elements : State → List Piece → Checked Effect
+  elements = elementsBy placed
 
   -- 10: an area not of 4,096 bytes or a wrong width table; 12: a state out of range; 15: a descriptor; 19: a part above 8,192 bytes
   unfoldable pub admitted : State → List ℕ → List ℕ → Checked Unit

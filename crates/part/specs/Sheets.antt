@@ -15,7 +15,7 @@ use Rattle.part.specs.Records.{Item, text, rule, bytesOf}
 use Rattle.part.specs.Presenting.{moved}
 use Rattle.part.specs.Text.{character, characters, cycle}
 use Rattle.part.specs.Place.{Effect, placeText, placeRule, place}
-use Rattle.part.specs.Part.{placed, passed, elements, admitted, outcome, answer, interpreted, areaAfter}
+use Rattle.part.specs.Part.{placed, passedBy, elementsBy, admitted, outcome, answer, interpreted, areaAfter}
 use Rattle.part.specs.declared.shapes.Descriptor.{Descriptor}
 use Rattle.part.specs.declared.shapes.State.{State}
 use Rattle.part.specs.declared.shapes.Answer.{Answer}
@@ -148,9 +148,9 @@ abbrev pub kept : Sheet → Sheet
 kept s = sheet (s .width) (s .earlier) (s .first) (s .part) (s .answer) (origin + s .i) (origin + s .b) (s .shown)
 
 pub sheets-hold : map found sheets ≡ map kept sheets
-unfolding sheets found descriptorFields stateFields types sequence element cutFrom cut bytesOf moved character characters cycle placeText placeRule place placed passed elements admitted outcome interpreted areaAfter
+unfolding sheets found descriptorFields stateFields types sequence element cutFrom cut bytesOf moved character characters cycle placeText placeRule place placed passedBy elementsBy admitted outcome interpreted areaAfter
 sheets-hold = refl
 
 pub further-hold : map found further ≡ map kept further
-unfolding further found descriptorFields stateFields types sequence element cutFrom cut bytesOf moved character characters cycle placeText placeRule place placed passed elements admitted outcome interpreted areaAfter
+unfolding further found descriptorFields stateFields types sequence element cutFrom cut bytesOf moved character characters cycle placeText placeRule place placed passedBy elementsBy admitted outcome interpreted areaAfter
 further-hold = refl
