@@ -38,6 +38,10 @@ pub data Gives {A : Type 0} (P : A → Type 0) (Q : ℕ → Type 0) : Checked A 
   value : {a : A} → P a → Gives P Q (fine a)
   refusal : {code at : ℕ} → Q code → Gives P Q (fault code at)
 
+pub gives-any : {A : Type 0} (m : Checked A) → Gives (λ _. Unit) (λ _. Unit) m
+gives-any (fine a) = value tt
+gives-any (fault code at) = refusal tt
+
 pub gives-then : {A B : Type 0} {P : A → Type 0} {Q : ℕ → Type 0} {R : B → Type 0} (m : Checked A) (f : A → Checked B) → Gives P Q m → ((a : A) → P a → Gives R Q (f a)) → Gives R Q (m >>= f)
 gives-then (fine a) f (value p) k = k a p
 gives-then (fault code at) f (refusal q) k = refusal q

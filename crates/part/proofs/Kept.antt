@@ -53,7 +53,7 @@ module _ (widths : List ℕ) (d : Descriptor) (dh : hold (descriptorFields d) �
   pub cut-leaves : (s : State) (chain : ℕ) (part : List ℕ) → Gives (Stays s) Coded (elements widths d s (cut chain part))
   unfolding cut
   cut-leaves s chain part =
-      elements-give widths d Stays Coded (λ s h. h) (λ s e f one two h. two (one h)) s (cut chain part)
+      elements-give (placed widths d) Stays Coded (λ s h. h) (λ s e f one two h. two (one h)) s (cut chain part)
       (every-so (λ p ok s. gives-then (p .what) _ ok (λ f fit. gives-so (λ g r. r .1 dh fit) (λ _ q. q) (passed-leaves widths d s f))) (pieces-fit (length part) 0 chain part))
 
   pub elements-kept : {f : Effect} (s : State) (chain : ℕ) (part : List ℕ) → hold (stateFields s) ≡ true → elements widths d s (cut chain part) ≡ fine f → hold (stateFields (f .state)) ≡ true

@@ -11,6 +11,7 @@ pub mod Every
 pub mod Fields
 pub mod Fits
 pub mod Inks
+pub mod Inside
 pub mod Kept
 pub mod Lines
 pub mod Outcomes
@@ -20,6 +21,7 @@ pub mod Places
 pub mod Placing
 pub mod Reading
 pub mod Refusals
+pub mod Rooms
 pub mod Rows
 pub mod Runs
 pub mod Shown

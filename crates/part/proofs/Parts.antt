@@ -16,7 +16,7 @@ use Rattle.part.specs.Place.{Effect, effect, place}
 use Rattle.part.specs.Part.{placed, passed, passedBy, elements, elementsBy}
 use Rattle.part.specs.declared.shapes.Descriptor.{Descriptor}
 use Rattle.part.specs.declared.shapes.State.{State}
-use Rattle.part.proofs.Checks.{Gives, value, refusal, gives-then, gives-where, gives-so, gives-at, value-of}
+use Rattle.part.proofs.Checks.{Gives, value, gives-any, gives-then, gives-where, gives-so, gives-at, value-of}
 use Rattle.part.proofs.Every.{Every, none, _also_, every}
 use Rattle.part.proofs.Fields.{changed}
 use Rattle.part.proofs.Bounds.{used-fits}
@@ -56,18 +56,18 @@ module _ (widths : List ℕ) (d : Descriptor) where
 
 -- ---- what holds after each element holds after all of them
 
-module _ (widths : List ℕ) (d : Descriptor) (R : State → Effect → Type 0) (Q : ℕ → Type 0) where
+module _ (put : State → Element → Checked Effect) (R : State → Effect → Type 0) (Q : ℕ → Type 0) where
   pub elements-give :
       ((s : State) → R s (record { state = s; items = [] }))
       → ((s : State) (e f : Effect) → R s e → R (e .state) f → R s (record { state = f .state; items = e .items ++ f .items }))
       → (s : State) (ps : List Piece)
-      → Every (λ p. (s : State) → Gives (R s) Q (p .what >>= passed widths d s)) ps
-      → Gives (R s) Q (elements widths d s ps)
+      → Every (λ p. (s : State) → Gives (R s) Q (p .what >>= passedBy put s)) ps
+      → Gives (R s) Q (elementsBy put s ps)
   unfolding elementsBy
   elements-give start onward s [] none = value (start s)
   elements-give start onward s (p ∷ ps) (one also others) =
-      gives-then (startingAt (p .at) (p .what >>= passed widths d s)) _ (gives-at (p .at) (p .what >>= passed widths d s) (one s)) λ e first.
-      gives-then (elements widths d (e .state) ps) _ (elements-give start onward (e .state) ps others) λ f rest.
+      gives-then (startingAt (p .at) (p .what >>= passedBy put s)) _ (gives-at (p .at) (p .what >>= passedBy put s) (one s)) λ e first.
+      gives-then (elementsBy put (e .state) ps) _ (elements-give start onward (e .state) ps others) λ f rest.
       value (onward s e f first rest)
 
 -- ---- bytes used
@@ -115,12 +115,8 @@ module _ (widths : List ℕ) (d : Descriptor) where
   -- The bytes used grow by the record bytes added, and stay within 4,096.
   pub elements-grown : (s : State) (ps : List Piece) → Gives (Grown s) (λ _. Unit) (elements widths d s ps)
   elements-grown s ps =
-      elements-give widths d Grown (λ _. Unit) (λ s. record { grows = omega arith; fits = λ h. h }) grown-on s ps
-      (every (λ p s. gives-then (p .what) _ (anything (p .what)) (λ f _. gives-so (λ g r. r .0) (λ _ _. tt) (passed-leaves s f))) ps)
-    where
-      anything : (m : Checked Found) → Gives (λ _. Unit) (λ _. Unit) m
-      anything (fine f) = value tt
-      anything (fault code at) = refusal tt
+      elements-give (placed widths d) Grown (λ _. Unit) (λ s. record { grows = omega arith; fits = λ h. h }) grown-on s ps
+      (every (λ p s. gives-then (p .what) _ (gives-any (p .what)) (λ f _. gives-so (λ g r. r .0) (λ _ _. tt) (passed-leaves s f))) ps)
 
   pub elements-grow : (s : State) (ps : List Piece) (e : Effect) → elements widths d s ps ≡ fine e → e .state .used ≡ s .used + length (allBytes (e .items))
   elements-grow s ps e h = value-of (elements widths d s ps) (elements-grown s ps) h .grows

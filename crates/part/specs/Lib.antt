@@ -9,6 +9,7 @@ pub mod Records
 pub mod Presenting
 pub mod Text
 pub mod Place
+pub mod Drawing
 pub mod Part
 pub mod Code
 pub mod Working
