@@ -9,15 +9,17 @@ use lib.ListN.{length, take, length-append}
 use Rattle.part.specs.Checks.{Checked, fine, fault}
 use Rattle.part.specs.Reading.{cut}
 use Rattle.part.specs.Records.{allBytes, spliced}
-use Rattle.part.specs.Place.{Effect}
-use Rattle.part.specs.Part.{elements}
+use Rattle.part.specs.States.{withUsed}
+use Rattle.part.specs.Place.{Effect, place}
+use Rattle.part.specs.Part.{elementsBy}
 use Rattle.part.specs.declared.shapes.Descriptor.{Descriptor}
 use Rattle.part.specs.declared.shapes.State.{State}
 use Rattle.part.proofs.Parts.{_then_, allBytes-join}
 use Rattle.part.proofs.Accepting.{Accepted, then-then}
+use Rattle.part.proofs.Rooms.{shifted, elements-free, free-of}
 use Rattle.hub.specs.Entries.{entry, firstState, goneOn}
-use Rattle.hub.specs.Histories.{Numbered, Job, withPart, partsFrom, counting}
-use Rattle.hub.specs.Promises.{Kept}
+use Rattle.hub.specs.Accounts.{Numbered, Job, withPart, partsFrom}
+use Rattle.hub.specs.Promises.{counting, Kept}
 use Rattle.hub.specs.declared.jobs.Entry.{Entry}
 use Rattle.hub.proofs.Bytes.{up-to}
 
@@ -27,32 +29,45 @@ count-on n zero = rw add-zero
 count-on n (suc many) = ap (λ (t : List ℕ). n ∷ t) (count-on (n + 1) many ∙ ap (λ (m : ℕ). counting (n + 1) many ++ m ∷ []) (let z : n + 1 + many ≡ n + suc many = omega arith in z))
 
 module _ (widths : List ℕ) (d : Descriptor) where
+  abbrev free : State → List ℕ → Checked Effect
+  free s p = elementsBy (place widths d) s (cut (s .chain) p)
+
   -- some parts, and one more
-  parts-on : (s : State) (ps : List (List ℕ)) (p : List ℕ) → partsFrom widths d s (ps ++ p ∷ []) ≡ _then_ (partsFrom widths d s ps) (λ t. elements widths d t (cut (t .chain) p))
+  parts-on : (s : State) (ps : List (List ℕ)) (p : List ℕ) → partsFrom widths d s (ps ++ p ∷ []) ≡ _then_ (partsFrom widths d s ps) (λ t. free t p)
   unfolding partsFrom
-  parts-on s [] p = alone (elements widths d s (cut (s .chain) p))
+  parts-on s [] p = alone (free s p)
     where
       alone : (m : Checked Effect) → _then_ m (λ t. fine (record { state = t; items = [] })) ≡ _then_ (fine (record { state = s; items = [] })) (λ _. m)
       alone (fine e) = rw append-nil
       alone (fault code at) = refl
-  parts-on s (q ∷ ps) p = go (elements widths d s (cut (s .chain) q)) (λ t. parts-on t ps p)
+  parts-on s (q ∷ ps) p = go (free s q) (λ t. parts-on t ps p)
     where
-      go : (m : Checked Effect) → ((t : State) → partsFrom widths d t (ps ++ p ∷ []) ≡ _then_ (partsFrom widths d t ps) (λ t. elements widths d t (cut (t .chain) p)))
-          → _then_ m (λ t. partsFrom widths d t (ps ++ p ∷ [])) ≡ _then_ (_then_ m (λ t. partsFrom widths d t ps)) (λ t. elements widths d t (cut (t .chain) p))
-      go (fine e) k = rw (k (e .state)) (then-then (fine e) (λ t. partsFrom widths d t ps) (λ t. elements widths d t (cut (t .chain) p)))
+      go : (m : Checked Effect) → ((t : State) → partsFrom widths d t (ps ++ p ∷ []) ≡ _then_ (partsFrom widths d t ps) (λ t. free t p))
+          → _then_ m (λ t. partsFrom widths d t (ps ++ p ∷ [])) ≡ _then_ (_then_ m (λ t. partsFrom widths d t ps)) (λ t. free t p)
+      go (fine e) k = rw (k (e .state)) (then-then (fine e) (λ t. partsFrom widths d t ps) (λ t. free t p))
       go (fault code at) k = refl
 
 module _ (widths : List ℕ) (j : Job) (e : Entry) (area : List ℕ) (number : ℕ) (part : List ℕ) (f : Effect) where
-  pub part-kept : e .next ≡ number → Accepted widths (e .descriptor) (e .state) part area f → Kept widths j e area
-      → Kept widths (withPart j (record { number = number; part = part })) (goneOn e (f .state)) (spliced area (e .state .used) (allBytes (f .items)))
+  pub part-kept : e .next ≡ number → Accepted widths (e .descriptor) (e .state) part area f → Kept widths j 1 e area
+      → Kept widths (withPart j (record { number = number; part = part })) 1 (goneOn e (f .state)) (spliced area (e .state .used) (allBytes (f .items)))
   part-kept next taken k =
       let p : Numbered = record { number = number; part = part } in
       let n = length (j .parts) in
+      let s = k .result .state in
       let bytes = allBytes (f .items) in
       let long = length-append (j .parts) (p ∷ []) in
       let was = ap (λ (x : Entry). x .next) (k .itsEntry) in
-      let passed = rw (k .itsEntry) at (taken .passed) in
+      let itsState = ap (λ (x : Entry). x .state) (k .itsEntry) in
+      let itsDescriptor = ap (λ (x : Entry). x .descriptor) (k .itsEntry) in
+      let passed : free widths (j .descriptor) s part ≡ fine (shifted (s .used) f) =
+          ap (λ (d : Descriptor). free widths d s part) (sym itsDescriptor)
+          ∙ ap (λ (x : State). free widths (e .descriptor) (withUsed x (s .used)) part) (sym itsState)
+          ∙ elements-free widths (e .descriptor) (e .state) (s .used) (cut (e .state .chain) part)
+          ∙ rw (free-of widths (e .descriptor) (e .state) (cut (e .state .chain) part) f (taken .passed))
+      in
       let grows = taken .grows in
+      let used = k .itsUsed in
+      let join = allBytes-join (k .result .items) (f .items) in
       record {
         inOrder =
             map-append (λ (x : Numbered). x .number) (j .parts) (p ∷ [])
@@ -60,7 +75,7 @@ module _ (widths : List ℕ) (j : Job) (e : Entry) (area : List ℕ) (number : �
             ∙ ap (λ (m : ℕ). counting 1 n ++ m ∷ []) (let z : number ≡ 1 + n = omega arith in z)
             ∙ sym (count-on 1 n)
             ∙ ap (counting 1) (let z : suc n ≡ length (j .parts ++ p ∷ []) = omega arith in z);
-        result = record { state = f .state; items = k .result .items ++ f .items };
+        result = record { state = withUsed (f .state) (s .used); items = k .result .items ++ f .items };
         byRules =
             ap (partsFrom widths (j .descriptor) (firstState (j .descriptor))) (map-append (λ (x : Numbered). x .part) (j .parts) (p ∷ []))
             ∙ parts-on widths (j .descriptor) (firstState (j .descriptor)) (map (λ x. x .part) (j .parts)) part
@@ -68,10 +83,11 @@ module _ (widths : List ℕ) (j : Job) (e : Entry) (area : List ℕ) (number : �
         itsEntry =
             ap (λ (x : Entry). goneOn x (f .state)) (k .itsEntry)
             ∙ ap (λ (m : ℕ). entry (j .key) 1 (j .descriptor) (f .state) (m + 1)) (sym long);
+        itsUsed = let z = ap length join ∙ length-append (allBytes (k .result .items)) bytes in omega arith;
         itsRecords =
             ap (λ (m : ℕ). j .taken ++ take m (spliced area (e .state .used) bytes)) grows
             ∙ ap (λ (t : List ℕ). j .taken ++ t) (up-to area (e .state .used) bytes (taken .fits))
             ∙ sym (append-assoc (j .taken) (take (e .state .used) area) bytes)
             ∙ ap (λ (t : List ℕ). t ++ bytes) (k .itsRecords)
-            ∙ sym (allBytes-join (k .result .items) (f .items));
+            ∙ sym join;
       }

@@ -1,7 +1,7 @@
 -- After any requests from a fresh table each slot's job is kept by the rules: each request keeps it so, at its own slot and at the others.
 -- Assumes nothing.
 use Prim.Native.Nat.{ℕ, zero, suc, _≤_}
-use mathlib.Core.Path.{_≡_, refl, _∙_}
+use mathlib.Core.Path.{_≡_, refl, _∙_, ap}
 use mathlib.Core.Bool.{Bool, true, false, _&&_}
 use mathlib.Core.List.{List, [], _∷_}
 use native.Mathlib.Omega.{arith}
@@ -14,9 +14,10 @@ use Rattle.part.specs.declared.shapes.Descriptor.{Descriptor}
 use Rattle.part.proofs.Checks.{first-of, second-of}
 use Rattle.part.proofs.Areas.{spliced-length}
 use Rattle.part.proofs.Accepting.{accepted}
-use Rattle.hub.specs.Entries.{isOpen, isOpenUnder, damaged, firstState, fresh, freshTable}
+use Rattle.hub.specs.Entries.{isOpen, isOpenUnder, damaged, firstState, closed, fresh, freshTable}
 use Rattle.hub.specs.Requests.{opening, closing, submitting, areaTaken, areaOf, Hub, hub, Request, Open, Submit, Close, slotOf, step, steps}
-use Rattle.hub.specs.Histories.{entryOf, Account, idle, running, noted, account, partsFrom}
+use Rattle.hub.specs.Accounts.{Account, unused, running, ended, noted, partsFrom}
+use Rattle.hub.specs.Histories.{entryOf, account}
 use Rattle.hub.specs.Promises.{Agrees, Fresh, Holds}
 use Rattle.hub.specs.declared.jobs.Entry.{Entry}
 use Rattle.hub.proofs.Slots.{own-length, with-own}
@@ -40,6 +41,10 @@ under-open e key h = go (isOpen e) refl
     go : (t : Bool) → isOpen e ≡ t → isOpen e ≡ true
     go true is = is
     go false shut = let z : false ≡ true = rw shut at h in cc
+
+-- a closed entry isn't open under any key
+shut-under : (e : Entry) (key : ℕ) → isOpen e ≡ false → isOpenUnder e key ≡ true → ⊥
+shut-under e key shut under = let is = under-open e key under in let z : _≡_ {A = ℕ} 0 1 = cc in omega arith
 
 pub awaits : (key number : ℕ) (e : Entry) → SubmitTests key number e → Awaits number e
 awaits key number e t =
@@ -67,21 +72,27 @@ module _ (widths : List ℕ) where
     open-sound a d x passed =
         let now = there widths h (Open slot key d) x in
         record {
-          agrees = rw (now, passed .0) (record { inOrder = refl; result = record { state = firstState d; items = [] }; byRules = refl; itsEntry = refl; itsRecords = refl });
+          agrees = rw (now, passed .0) (record { inOrder = refl; result = record { state = firstState d; items = [] }; byRules = refl; itsEntry = refl; itsUsed = refl; itsRecords = refl });
           undamaged = rw (now, passed .0) (opened-undamaged key d (passed .1 .ranges));
         }
 
-    close-sound : (a : Account) → Here widths h (Close slot key) → Passed widths h (Close slot key) → Sound (noted a (Close slot key)) (step widths h (Close slot key) .after) slot
+    close-sound : (a : Account) → Here widths h (Close slot key) → Passed widths h (Close slot key) → Sound a h slot → Sound (noted a (Close slot key)) (step widths h (Close slot key) .after) slot
     unfolding closing
-    close-sound a x passed = let now = there widths h (Close slot key) x in record { agrees = rw (now, passed .0); undamaged = rw (now, passed .0) }
+    close-sound unused x passed s = absurd (shut-under (entryOf h slot) key (s .agrees .0) (passed .1 .under))
+    close-sound (running j) x passed s =
+        let now = there widths h (Close slot key) x in
+        let k = s .agrees in
+        record {
+          agrees = rw (now, x .leaves, passed .0) (record { inOrder = k .inOrder; result = k .result; byRules = k .byRules; itsEntry = ap closed (k .itsEntry); itsUsed = k .itsUsed; itsRecords = k .itsRecords });
+          undamaged = rw (now, passed .0);
+        }
+    close-sound (ended j) x passed s = absurd (shut-under (entryOf h slot) key (rw (s .agrees .itsEntry)) (passed .1 .under))
 
     submit-sound : (a : Account) (number : ℕ) (part : List ℕ) → Here widths h (Submit slot key number part) → Passed widths h (Submit slot key number part) → Sound a h slot
         → Sound (noted a (Submit slot key number part)) (step widths h (Submit slot key number part) .after) slot
     unfolding submitting areaTaken
-    submit-sound idle number part x passed s =
-        let shut = s .agrees in
-        let is = awaits key number (entryOf h slot) (passed .1) .is in
-        absurd (let z : _≡_ {A = ℕ} 0 1 = cc in omega arith)
+    submit-sound unused number part x passed s = absurd (shut-under (entryOf h slot) key (s .agrees .0) (passed .1 .under))
+    submit-sound (ended j) number part x passed s = absurd (shut-under (entryOf h slot) key (rw (s .agrees .itsEntry)) (passed .1 .under))
     submit-sound (running j) number part x passed s =
         let r = Submit slot key number part in
         let e = entryOf h slot in
@@ -102,7 +113,7 @@ module _ (widths : List ℕ) where
   own-sound : (a : Account) (h : Hub) (r : Request) → Here widths h r → Passed widths h r → Sound a h (slotOf r) → Sound (noted a r) (step widths h r .after) (slotOf r)
   own-sound a h (Open slot key d) x passed s = open-sound h slot key a d x passed
   own-sound a h (Submit slot key number part) x passed s = submit-sound h slot key a number part x passed s
-  own-sound a h (Close slot key) x passed s = close-sound h slot key a x passed
+  own-sound a h (Close slot key) x passed s = close-sound h slot key a x passed s
 
   -- ---- a request on another slot
 
@@ -133,11 +144,11 @@ module _ (widths : List ℕ) where
   steps-sound a h [] slot s = s
   steps-sound a h (r ∷ rs) slot s = steps-sound (after slot a h r) (step widths h r .after) rs slot (step-sound a h r slot s)
 
-  fresh-sound : (h : Hub) (slot : ℕ) → Fresh h → Sound idle h slot
-  fresh-sound h slot f = record { agrees = f .allClosed slot; undamaged = rw (f .allClosed slot) }
+  fresh-sound : (h : Hub) (slot : ℕ) → Fresh h → Sound unused h slot
+  fresh-sound h slot f = record { agrees = (f .allClosed slot, f .noKeys slot); undamaged = rw (f .allClosed slot) }
 
 pub holds : Holds
-holds widths h f rs slot = let s = steps-sound widths idle h rs slot (fresh-sound widths h slot f) in (s .agrees, s .undamaged)
+holds widths h f rs slot = let s = steps-sound widths unused h rs slot (fresh-sound widths h slot f) in (s .agrees, s .undamaged)
 
 -- ---- and there is a fresh table
 

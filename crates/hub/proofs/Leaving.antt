@@ -1,7 +1,7 @@
 -- Every code but 0 leaves all that was lent untouched; with 0, everything not named stays.
 -- Assumes nothing.
 use Prim.Native.Nat.{ℕ}
-use mathlib.Core.Path.{_≡_, sym}
+use mathlib.Core.Path.{_≡_, refl, sym}
 use mathlib.Core.List.{List}
 use native.Mathlib.Omega.{arith}
 use lib.ListN.{getD}
@@ -10,18 +10,18 @@ use Rattle.part.specs.Records.{allBytes}
 use Rattle.part.proofs.Accepting.{accepted}
 use Rattle.hub.specs.Requests.{opening, closing, submitting, areaTaken, areaOf, Hub, Request, Open, Submit, Close, slotOf, step}
 use Rattle.hub.specs.Histories.{entryOf}
-use Rattle.hub.specs.Promises.{Writes, Leaves, OnlyItsOwn, Untouched}
+use Rattle.hub.specs.Promises.{Writes, Stays, OnlyItsOwn, Untouched}
 use Rattle.hub.proofs.Bytes.{area-outside}
 use Rattle.hub.proofs.Reaching.{table-size, records-size, other-entry}
 use Rattle.hub.proofs.Deciding.{Here, there, whole, Passed, Decision, refused, done, decision}
 
 module _ (widths : List ℕ) (h : Hub) where
   -- its own entry
-  entry-left : (r : Request) → Here widths h r → Passed widths h r → Leaves r (entryOf h (slotOf r)) (entryOf (step widths h r .after) (slotOf r))
+  entry-left : (r : Request) → Here widths h r → Passed widths h r → Stays r (entryOf h (slotOf r)) (entryOf (step widths h r .after) (slotOf r))
   unfolding opening closing submitting
   entry-left (Open slot key d) x passed = tt
-  entry-left (Submit slot key number part) x passed = rw (there widths h (Submit slot key number part) x, passed .0, passed .2)
-  entry-left (Close slot key) x passed = rw (there widths h (Close slot key) x, passed .0)
+  entry-left (Submit slot key number part) x passed = rw (there widths h (Submit slot key number part) x, passed .0, passed .2) (refl, refl, refl)
+  entry-left (Close slot key) x passed = rw (there widths h (Close slot key) x, passed .0) (refl, refl, refl, refl)
 
   -- the record bytes
   bytes-left : (r : Request) → Here widths h r → Passed widths h r → (at : ℕ)

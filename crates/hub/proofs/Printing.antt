@@ -1,24 +1,36 @@
--- What the rules give is whole records, one behind the other: each begins with its own length and its kind. So is what an open job holds.
+-- What the rules give is whole records, one behind the other, each on the sheet: each begins with its own length and its kind. So is what a job holds.
 -- Assumes nothing.
 use Prim.Native.Nat.{ℕ, zero, suc, _+_, _-_, _*_, _/_, _%_, _≤_, _<_}
-use mathlib.Core.Path.{_≡_, refl, _∙_, sym}
-use mathlib.Core.Bool.{Bool, true, false, true≢false, _&&_}
-use mathlib.Core.List.{List, [], _∷_, _++_}
+use mathlib.Core.Path.{_≡_, refl, _∙_, ap}
+use mathlib.Core.Bool.{Bool, true, false, _&&_}
+use mathlib.Core.List.{List, [], _∷_, _++_, map}
 use native.Mathlib.Omega.{arith}
 use borrow.Author.Tests.{le-leb}
-use lib.ListN.{length, take, drop, length-append, length-take}
+use lib.ListN.{length, take, drop, getD, length-append, length-take}
 use lib.Dec.{leb, eqb}
 use lib.Seq.{drop-append-seam}
 use Rattle.part.specs.Numbers.{if_then_else_}
+use Rattle.part.specs.Reading.{cut}
 use Rattle.part.specs.Records.{Item, text, rule, bytesOf, allBytes, littleAt, isWhole, boundariesFrom, boundaries}
+use Rattle.part.specs.Place.{place}
+use Rattle.part.specs.Part.{elementsBy}
+use Rattle.part.specs.Drawing.{allOnSheet}
+use Rattle.part.specs.declared.shapes.Descriptor.{Descriptor}
+use Rattle.part.specs.declared.shapes.State.{State}
+use Rattle.part.proofs.Checks.{Gives, value, gives-then, value-of}
+use Rattle.part.proofs.Inside.{OnSheet, all-join, elements-on}
+use Rattle.hub.specs.Entries.{firstState}
 use Rattle.hub.specs.Requests.{areaOf, Hub, Request, Open, Submit, Close, slotOf, step, steps}
-use Rattle.hub.specs.Histories.{entryOf, Account, idle, running, noted, account}
-use Rattle.hub.specs.Promises.{Agrees, WholeRecords, Printable, Prints}
+use Rattle.hub.specs.Accounts.{Job, Account, unused, running, ended, noted, partsFrom}
+use Rattle.hub.specs.Histories.{entryOf, account}
+use Rattle.hub.specs.Promises.{Fresh, Kept, Agrees, WholeRecords, Printable, printed, Prints, OnItsSheet, OnTheSheet}
+use Rattle.hub.specs.declared.jobs.Entry.{Entry}
 use Rattle.hub.proofs.Holding.{holds}
 
 abbrev NoneTaken : Account → Type 0
-NoneTaken idle = Unit
+NoneTaken unused = Unit
 NoneTaken (running j) = j .taken ≡ []
+NoneTaken (ended j) = j .taken ≡ []
 
 -- a number below 65,536 is read back from its two bytes
 read-back : (n : ℕ) → n < 65536 → n % 256 + 256 * (n / 256 % 256) ≡ n
@@ -54,12 +66,14 @@ all-whole (x ∷ xs) h =
     let b = begins x (allBytes xs) (omega arith) in
     (b .whole, rw (rest-behind x (allBytes xs) (b .length-is)) (all-whole xs (omega arith)))
 
--- as many places are met, and the end
-all-met : (most at : ℕ) (xs : List Item) → length (allBytes xs) < 65536 → length xs ≤ most → length (boundariesFrom most at (allBytes xs)) ≡ length xs + 1
-all-met zero at [] h k = refl
-all-met zero at (x ∷ xs) h k = absurd (omega arith)
-all-met (suc most) at [] h k = refl
-all-met (suc most) at (x ∷ xs) h k =
+-- a step over the first of them: it ends within the bytes, at the second
+record StepsOn (x : Item) (xs : List Item) : Type 0 where
+  is : littleAt (allBytes (x ∷ xs)) 0 ≡ length (bytesOf x)
+  goes : (leb 16 (littleAt (allBytes (x ∷ xs)) 0) && leb (littleAt (allBytes (x ∷ xs)) 0) (length (allBytes (x ∷ xs)))) ≡ true
+  rest : drop (littleAt (allBytes (x ∷ xs)) 0) (allBytes (x ∷ xs)) ≡ allBytes xs
+
+step-on : (x : Item) (xs : List Item) → length (allBytes (x ∷ xs)) < 65536 → StepsOn x xs
+step-on x xs h =
     let l = length-append (bytesOf x) (allBytes xs) in
     let b = begins x (allBytes xs) (omega arith) in
     let n = littleAt (allBytes (x ∷ xs)) 0 in
@@ -67,7 +81,27 @@ all-met (suc most) at (x ∷ xs) h k =
     let long = b .long in
     let p : leb 16 n ≡ true = le-leb 16 n (omega arith) in
     let q : leb n (length (allBytes (x ∷ xs))) ≡ true = le-leb n (length (allBytes (x ∷ xs))) (omega arith) in
-    rw (p, q, rest-behind x (allBytes xs) is) (let m = all-met most (at + n) xs (omega arith) (omega arith) in omega arith)
+    record { is = is; goes = rw (p, q); rest = rest-behind x (allBytes xs) is }
+
+-- as many places are met, and the end
+all-met : (most at : ℕ) (xs : List Item) → length (allBytes xs) < 65536 → length xs ≤ most → length (boundariesFrom most at (allBytes xs)) ≡ length xs + 1
+all-met zero at [] h k = refl
+all-met zero at (x ∷ xs) h k = absurd (omega arith)
+all-met (suc most) at [] h k = refl
+all-met (suc most) at (x ∷ xs) h k =
+    let l = length-append (bytesOf x) (allBytes xs) in
+    let s = step-on x xs h in
+    rw (s .goes, s .rest) (let m = all-met most (at + littleAt (allBytes (x ∷ xs)) 0) xs (omega arith) (omega arith) in omega arith)
+
+-- the last of them is the end
+all-end : (most at : ℕ) (xs : List Item) → length (allBytes xs) < 65536 → length xs ≤ most → getD (boundariesFrom most at (allBytes xs)) (length xs) 0 ≡ at + length (allBytes xs)
+all-end zero at [] h k = omega arith
+all-end zero at (x ∷ xs) h k = absurd (omega arith)
+all-end (suc most) at [] h k = omega arith
+all-end (suc most) at (x ∷ xs) h k =
+    let l = length-append (bytesOf x) (allBytes xs) in
+    let s = step-on x xs h in
+    rw (s .goes, s .rest) (let m = all-end most (at + littleAt (allBytes (x ∷ xs)) 0) xs (omega arith) (omega arith) in let is = s .is in omega arith)
 
 -- every record has 16 bytes or more
 as-many : (xs : List Item) → length (allBytes xs) < 65536 → length xs ≤ length (allBytes xs)
@@ -80,17 +114,20 @@ as-many (x ∷ xs) h =
 
 items-print : (xs : List Item) → length (allBytes xs) < 65536 → Printable (allBytes xs)
 unfolding boundaries
-items-print xs h = record { count = length xs; records = all-whole xs h; met = all-met (length (allBytes xs)) 0 xs h (as-many xs h) }
+items-print xs h = record { count = length xs; records = all-whole xs h; met = all-met (length (allBytes xs)) 0 xs h (as-many xs h); end = all-end (length (allBytes xs)) 0 xs h (as-many xs h) ∙ (omega arith) }
 
--- ---- what an open job holds
+-- ---- what a job holds
 
 -- no request takes any bytes out of an area
 noted-taken : (b : Bool) (a : Account) (r : Request) → NoneTaken a → NoneTaken (if b then noted a r else a)
 noted-taken false a r n = n
 noted-taken true a (Open slot key d) n = refl
-noted-taken true idle (Submit slot key number part) n = tt
+noted-taken true unused (Submit slot key number part) n = tt
 noted-taken true (running j) (Submit slot key number part) n = n
-noted-taken true a (Close slot key) n = tt
+noted-taken true (ended j) (Submit slot key number part) n = n
+noted-taken true unused (Close slot key) n = tt
+noted-taken true (running j) (Close slot key) n = n
+noted-taken true (ended j) (Close slot key) n = n
 
 none-taken : (widths : List ℕ) (slot : ℕ) (h : Hub) (a : Account) (rs : List Request) → NoneTaken a → NoneTaken (account widths slot h a rs)
 unfolding account
@@ -105,18 +142,40 @@ area-low records slot used =
     let b = length-take (4096 * slot + 4096 - 4096 * slot) (drop (4096 * slot) records) in
     omega arith
 
+-- all that the rules give for some parts lies on the sheet
+parts-on-sheet : (widths : List ℕ) (d : Descriptor) (s : State) (ps : List (List ℕ)) → Gives (OnSheet widths d) (λ _. Unit) (partsFrom widths d s ps)
+unfolding partsFrom
+parts-on-sheet widths d s [] = value refl
+parts-on-sheet widths d s (p ∷ ps) =
+    gives-then (elementsBy (place widths d) s (cut (s .chain) p)) _ (elements-on widths d s (cut (s .chain) p)) λ f one.
+    gives-then (partsFrom widths d (f .state) ps) _ (parts-on-sheet widths d (f .state) ps) λ g others.
+    value (all-join widths d (f .items) (g .items) one others)
+
+-- the items of a slot that has had a job: its bytes, and the sheet of its descriptor
+module _ (widths : List ℕ) (h : Hub) (f : Fresh h) (rs : List Request) (slot : ℕ) where
+  abbrev now : Hub
+  now = steps widths h rs
+
+  kept-items : (j : Job) (mark : ℕ) → j .taken ≡ [] → Kept widths j mark (entryOf now slot) (areaOf (now .records) slot) → OnItsSheet widths (entryOf now slot .descriptor) (printed now slot)
+  kept-items j mark none k =
+      let itsDescriptor = ap (λ (x : Entry). x .descriptor) (k .itsEntry) in
+      let on = value-of (partsFrom widths (j .descriptor) (firstState (j .descriptor)) (map (λ p. p .part) (j .parts))) (parts-on-sheet widths (j .descriptor) _ _) (k .byRules) in
+      record { items = k .result .items; itsBytes = rw none at (k .itsRecords); onSheet = ap (λ (d : Descriptor). allOnSheet widths d (k .result .items)) itsDescriptor ∙ on }
+
+  its-items : 0 < entryOf now slot .key → OnItsSheet widths (entryOf now slot .descriptor) (printed now slot)
+  its-items had = go (account widths slot h unused rs) (none-taken widths slot h unused rs tt) (holds widths h f rs slot .0)
+    where
+      go : (a : Account) → NoneTaken a → Agrees widths a (entryOf now slot) (areaOf (now .records) slot) → OnItsSheet widths (entryOf now slot .descriptor) (printed now slot)
+      go unused n k = let none = k .1 in absurd (omega arith)
+      go (running j) n k = kept-items j 1 n k
+      go (ended j) n k = kept-items j 0 n k
+
+pub on-the-sheet : OnTheSheet
+on-the-sheet widths h f rs slot had = its-items widths h f rs slot had
+
 pub prints : Prints
-prints widths h f rs slot is = go (account widths slot h idle rs) (none-taken widths slot h idle rs tt) (holds widths h f rs slot .0)
-  where
-    now : Hub
-    now = steps widths h rs
-
-    bytes : List ℕ
-    bytes = take (entryOf now slot .state .used) (areaOf (now .records) slot)
-
-    go : (a : Account) → NoneTaken a → Agrees widths a (entryOf now slot) (areaOf (now .records) slot) → Printable bytes
-    go idle n shut = absurd (true≢false (sym is ∙ shut))
-    go (running j) n k =
-        let its : bytes ≡ allBytes (k .result .items) = rw n at (k .itsRecords) in
-        let low = area-low (now .records) slot (entryOf now slot .state .used) in
-        rw its (items-print (k .result .items) (rw its at low))
+prints widths h f rs slot had =
+    let x = its-items widths h f rs slot had in
+    let its = x .itsBytes in
+    let low = area-low (steps widths h rs .records) slot (entryOf (steps widths h rs) slot .state .used) in
+    rw its (items-print (x .items) (rw its at low))

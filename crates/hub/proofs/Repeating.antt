@@ -15,7 +15,7 @@ use Rattle.part.proofs.Checks.{second-of}
 use Rattle.hub.specs.Entries.{isOpen, isOpenUnder, damaged}
 use Rattle.hub.specs.Requests.{mayOpen, judged, maySubmit, mayClose, opening, closing, submitting, refusal, Hub, Request, Open, Submit, Close, slotOf, isLent, onEntry, step, steps}
 use Rattle.hub.specs.Histories.{entryOf}
-use Rattle.hub.specs.Promises.{repeated, Repeat}
+use Rattle.hub.specs.Promises.{resent, Fresh, Repeat}
 use Rattle.hub.specs.declared.jobs.Entry.{Entry}
 use Rattle.hub.proofs.Reaching.{step-lent}
 use Rattle.hub.proofs.Deciding.{Here, here, there, Passed, Decision, refused, done, decision}
@@ -95,7 +95,7 @@ module _ (e f : Entry) (later : Later e f) (whole : damaged f ≡ false) where
       cases false true false never = refl
       cases false false above never = refl
 
-past-check : (r : Request) (e f : Entry) → Past r e → Later e f → damaged f ≡ false → check r f ≡ fault (repeated r f) 0
+past-check : (r : Request) (e f : Entry) → Past r e → Later e f → damaged f ≡ false → check r f ≡ fault (resent r f) 0
 past-check (Open slot key d) e f past later whole = open-again e f later whole key d past
 past-check (Submit slot key number part) e f past later whole = submit-again e f later whole key number (past .0) (past .1) (past .2) (past .3)
 past-check (Close slot key) e f past later whole = close-again e f later whole key (past .0) (past .1)
@@ -104,7 +104,7 @@ above : (t : Bool) (a b : ℕ) → 0 < a → 0 < b → 0 < (if t then a else b)
 above true a b h k = h
 above false a b h k = k
 
-never-done : (r : Request) (f : Entry) → 0 < repeated r f
+never-done : (r : Request) (f : Entry) → 0 < resent r f
 never-done (Open slot key d) f = above (isOpenUnder f key) 1 _ (omega arith) (above (isOpen f) 13 14 (omega arith) (omega arith))
 never-done (Submit slot key number part) f = above (isOpenUnder f key) 1 16 (omega arith) (omega arith)
 never-done (Close slot key) f = above (eqb (f .key) key && ltb 0 key) 1 16 (omega arith) (omega arith)
@@ -132,7 +132,7 @@ module _ (widths : List ℕ) where
   -- from any table, also one with damaged entries
   pub record SentAgain (now : Hub) (r : Request) : Type 0 where
     pub unchanged : step widths now r .after ≡ now
-    pub answered : damaged (entryOf now (slotOf r)) ≡ false → step widths now r .answer ≡ refusal (repeated r (entryOf now (slotOf r)))
+    pub answered : damaged (entryOf now (slotOf r)) ≡ false → step widths now r .answer ≡ refusal (resent r (entryOf now (slotOf r)))
 
   past-again : (now : Hub) (r : Request) (e : Entry) → isLent widths now r ≡ true → slotOf r < 16 → Past r e → Later e (entryOf now (slotOf r)) → SentAgain now r
   past-again now r e lent low past later = go (damaged f) refl
@@ -159,10 +159,13 @@ module _ (widths : List ℕ) where
           let left = step widths h r .after in
           past-again (steps widths left later) r (entryOf left (slotOf r)) (steps-lent left later r ∙ step-lent widths h r r ∙ x .lent) (x .low) (passed-past widths h r x passed) (steps-later widths left later (slotOf r))
 
-pub repeat : Repeat
+answered-again : (widths : List ℕ) (h : Hub) → Fresh h → (before : List Request) (r : Request) (later : List Request) → step widths (steps widths h before) r .answer .code ≡ 0
+    → step widths (steps widths h (before ++ r ∷ later)) r .answer ≡ refusal (resent r (entryOf (steps widths h (before ++ r ∷ later)) (slotOf r)))
 unfolding steps
-repeat widths h f before r later zero =
-    let s = again widths (steps widths h before) r later zero in
+answered-again widths h f before r later nought =
     let undamaged = holds widths h f (before ++ r ∷ later) (slotOf r) .1 in
     let joined = steps-join widths h before (r ∷ later) in
-    rw joined (s .unchanged, s .answered (rw joined at undamaged))
+    rw joined (again widths (steps widths h before) r later nought .answered (rw joined at undamaged))
+
+pub repeat : Repeat
+repeat = record { changesNothing = λ widths h r later nought. again widths h r later nought .unchanged; answers = answered-again }

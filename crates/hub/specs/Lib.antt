@@ -1,5 +1,6 @@
 pub mod Entries
 pub mod Requests
+pub mod Accounts
 pub mod Histories
 pub mod Promises
 pub mod Code

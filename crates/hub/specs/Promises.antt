@@ -1,18 +1,71 @@
--- "What the promises have to say": five promises over the rules of `Requests`, each as one type. Their proofs: Swapping, Holding, Printing, Repeating, Leaving.
+-- "What the promises have to say": the promises over the rules of `Requests`, each as one type.
+-- Their proofs: Answering, Leaving, Telling, Holding, Printing, Repeating, Swapping.
 use Prim.Native.Nat.{ℕ, zero, suc, _+_, _*_, _≤_, _<_}
 use mathlib.Core.Path.{_≡_}
-use mathlib.Core.Bool.{true, false, _&&_}
+use mathlib.Core.Bool.{Bool, true, false, _&&_, _||_}
 use mathlib.Core.List.{List, [], _∷_, _++_, map}
 use lib.ListN.{length, take, drop, getD}
 use lib.Dec.{ltb, eqb}
 use Rattle.part.specs.Numbers.{if_then_else_}
 use Rattle.part.specs.Checks.{fine}
-use Rattle.part.specs.Records.{allBytes, littleAt, isWhole, boundaries}
+use Rattle.part.specs.States.{withUsed}
+use Rattle.part.specs.Ranges.{Range, upTo, only, _to_, _or_, _∈_}
+use Rattle.part.specs.Records.{Item, allBytes, littleAt, isWhole, boundaries}
 use Rattle.part.specs.Place.{Effect}
-use Rattle.hub.specs.Entries.{entry, isOpen, isOpenUnder, damaged, goneOn, closed}
+use Rattle.part.specs.Drawing.{allOnSheet}
+use Rattle.part.specs.declared.shapes.Descriptor.{Descriptor}
+use Rattle.part.specs.declared.shapes.Answer.{Answer}
+use Rattle.hub.specs.Entries.{entry, isOpen, isOpenUnder, damaged}
 use Rattle.hub.specs.Requests.{areaOf, refusal, Hub, Request, Open, Submit, Close, slotOf, step, steps}
-use Rattle.hub.specs.Histories.{entryOf, Job, Account, idle, running, account, byTheRules, counting}
+use Rattle.hub.specs.Accounts.{Job, Account, unused, running, ended, byTheRules, told, asAnswer}
+use Rattle.hub.specs.Histories.{entryOf, account}
 use Rattle.hub.specs.declared.jobs.Entry.{Entry}
+
+-- ---- ANSWERED (demand 1): any request, whatever is lent, is answered with a code of the table that is one of its own. Its two numbers are 0
+-- unless said: a part that is done has its elements and its record bytes, and 20 to 29 an offset.
+
+abbrev pub codesOf : Request → Range
+codesOf (Open slot key d) = upTo 1 or 10 to 15
+codesOf (Submit slot key number part) = upTo 1 or 10 to 12 or 16 to 29
+codesOf (Close slot key) = upTo 1 or 10 to 12 or only 16
+
+abbrev pub isSubmit : Request → Bool
+isSubmit (Open slot key d) = false
+isSubmit (Submit slot key number part) = true
+isSubmit (Close slot key) = false
+
+pub record OfTheTable (r : Request) (a : Answer) : Type 0 where
+  pub code : (a .code ∈ codesOf r) ≡ true
+  pub first : (isSubmit r && a .code ∈ only 0 or 20 to 29) ≡ false → a .first ≡ 0
+  pub second : (isSubmit r && a .code ∈ only 0) ≡ false → a .second ≡ 0
+
+abbrev pub Answered : Type 0
+Answered = (widths : List ℕ) (h : Hub) (r : Request) → OfTheTable r (step widths h r .answer)
+
+-- ---- UNTOUCHED ("Every code but 0 .. leaves all that was lent untouched; with 0, everything not named stays"): any request, whatever is lent.
+
+-- the record bytes that an accepted request writes: a submit those from `used` up to the new `used`, open and close none
+abbrev pub Writes : Request → Entry → Entry → ℕ → Type 0
+Writes (Open slot key d) e f at = ⊥
+Writes (Submit slot key number part) e f at = (4096 * slot + e .state .used ≤ at) × (at < 4096 * slot + f .state .used)
+Writes (Close slot key) e f at = ⊥
+
+-- what stays of its own entry: with a submit key, mark and descriptor; with a close all but the open mark
+abbrev pub Stays : Request → Entry → Entry → Type 0
+Stays (Open slot key d) e f = Unit
+Stays (Submit slot key number part) e f = (f .key ≡ e .key) × (f .mark ≡ e .mark) × (f .descriptor ≡ e .descriptor)
+Stays (Close slot key) e f = (f .key ≡ e .key) × (f .descriptor ≡ e .descriptor) × (f .state ≡ e .state) × (f .next ≡ e .next)
+
+pub record OnlyItsOwn (r : Request) (h now : Hub) : Type 0 where
+  pub entries : (slot : ℕ) → (slot ≡ slotOf r → ⊥) → entryOf now slot ≡ entryOf h slot
+  pub itsEntry : Stays r (entryOf h (slotOf r)) (entryOf now (slotOf r))
+  pub bytes : (at : ℕ) → (Writes r (entryOf h (slotOf r)) (entryOf now (slotOf r)) at → ⊥) → getD (now .records) at 0 ≡ getD (h .records) at 0
+  pub tableSize : length (now .table) ≡ length (h .table)
+  pub recordsSize : length (now .records) ≡ length (h .records)
+
+pub record Untouched : Type 0 where
+  pub refused : (widths : List ℕ) (h : Hub) (r : Request) → (step widths h r .answer .code ≡ 0 → ⊥) → step widths h r .after ≡ h
+  pub accepted : (widths : List ℕ) (h : Hub) (r : Request) → step widths h r .answer .code ≡ 0 → OnlyItsOwn r h (step widths h r .after)
 
 -- ---- SWAP (demand 3): two requests that name different slots, each with its own width table, from any table (of any length, with damaged
 -- entries too) and any record buffer. In either order both get the same answers, and leave the same table and the same record bytes.
@@ -26,9 +79,8 @@ pub record EitherOrder (v w : List ℕ) (h : Hub) (p q : Request) : Type 0 where
 abbrev pub Swap : Type 0
 Swap = (v w : List ℕ) (h : Hub) (p q : Request) → (slotOf p ≡ slotOf q → ⊥) → EitherOrder v w h p q
 
--- ---- HOLDS (demand 3): from a fresh table, with one width table and a record buffer of any content, after any requests, accepted or not.
--- Each open job's entry and records are what the rules give for its descriptor and its accepted parts, each once, in number order.
--- And no entry is ever damaged. (Where the width table or the buffer has another length, no part is ever accepted.)
+-- ---- In the promises from here on a history begins with a fresh table, one width table and a record buffer of any content, and goes on with
+-- any requests, accepted or not. (Where the width table or the buffer has another length, no part is ever accepted.)
 
 -- In a fresh table all are closed, with last key 0.
 pub record Fresh (h : Hub) : Type 0 where
@@ -36,26 +88,43 @@ pub record Fresh (h : Hub) : Type 0 where
   pub allClosed : (slot : ℕ) → isOpen (entryOf h slot) ≡ false
   pub noKeys : (slot : ℕ) → entryOf h slot .key ≡ 0
 
--- A job's parts have the numbers 1, 2, .. up to next - 1. The rules give a state and items for them. The entry has that state,
--- and the items' bytes are those that were taken out of the area, and then the area's own up to `used`.
-pub record Kept (widths : List ℕ) (j : Job) (e : Entry) (area : List ℕ) : Type 0 where
+-- ---- TELLS (demands 1 to 3): every answer is what the slot's account tells, and nobody needs to look at the entry. It says what 1 means, and that
+-- nothing legal is refused.
+
+abbrev pub Tells : Type 0
+Tells = (widths : List ℕ) (h : Hub) → Fresh h → (before : List Request) (r : Request) →
+    step widths (steps widths h before) r .answer ≡ asAnswer (told widths h (account widths (slotOf r) h unused before) r)
+
+-- ---- HOLDS (demand 3): each job's entry and records are what the rules give for its descriptor and its accepted parts, each once, in number
+-- order, also when it was closed and no other was opened since. And no entry is ever damaged.
+
+-- n, n + 1, ..: so many numbers
+abbrev pub counting : ℕ → ℕ → List ℕ
+counting n zero = []
+counting n (suc many) = n ∷ counting (n + 1) many
+
+-- A job's parts have the numbers 1, 2, .. up to next - 1. The rules give a state and items for them. The entry has that state. The bytes used are
+-- those of the items less those taken; the items' bytes are those that were taken out of the area, and then the area's own up to `used`.
+pub record Kept (widths : List ℕ) (j : Job) (mark : ℕ) (e : Entry) (area : List ℕ) : Type 0 where
   pub inOrder : map (λ p. p .number) (j .parts) ≡ counting 1 (length (j .parts))
   pub result : Effect
-  pub byRules : byTheRules widths (j .descriptor) (map (λ p. p .part) (j .parts)) ≡ fine result
-  pub itsEntry : e ≡ entry (j .key) 1 (j .descriptor) (result .state) (length (j .parts) + 1)
+  pub byRules : byTheRules widths j ≡ fine result
+  pub itsEntry : e ≡ entry (j .key) mark (j .descriptor) (withUsed (result .state) (e .state .used)) (length (j .parts) + 1)
+  pub itsUsed : length (j .taken) + e .state .used ≡ length (allBytes (result .items))
   pub itsRecords : j .taken ++ take (e .state .used) area ≡ allBytes (result .items)
 
 abbrev pub Agrees : List ℕ → Account → Entry → List ℕ → Type 0
-Agrees widths idle e area = isOpen e ≡ false
-Agrees widths (running j) e area = Kept widths j e area
+Agrees widths unused e area = (isOpen e ≡ false) × (e .key ≡ 0)
+Agrees widths (running j) e area = Kept widths j 1 e area
+Agrees widths (ended j) e area = Kept widths j 0 e area
 
 abbrev pub Holds : Type 0
 Holds = (widths : List ℕ) (h : Hub) → Fresh h → (rs : List Request) (slot : ℕ) →
     let now = steps widths h rs in
-    Agrees widths (account widths slot h idle rs) (entryOf now slot) (areaOf (now .records) slot) × (damaged (entryOf now slot) ≡ false)
+    Agrees widths (account widths slot h unused rs) (entryOf now slot) (areaOf (now .records) slot) × (damaged (entryOf now slot) ≡ false)
 
--- ---- PRINTS: printers draw from the areas and check nothing. In such a history the bytes up to `used` of an open job's area are whole records,
--- one behind the other, and nothing else: stepping over them from the start meets the end.
+-- ---- PRINTS: printers draw from the areas and check nothing. Where a slot has had a job, open or closed, its bytes up to `used` are whole
+-- records, one behind the other, and nothing else: stepping over them from the start meets the end.
 
 -- so many whole records, and nothing behind them
 abbrev pub WholeRecords : ℕ → List ℕ → Type 0
@@ -66,50 +135,43 @@ pub record Printable (bytes : List ℕ) : Type 0 where
   pub count : ℕ
   pub records : WholeRecords count bytes
   pub met : length (boundaries bytes) ≡ count + 1
+  pub end : getD (boundaries bytes) count 0 ≡ length bytes
+
+-- what a printer reads of a slot
+abbrev pub printed : Hub → ℕ → List ℕ
+printed h slot = take (entryOf h slot .state .used) (areaOf (h .records) slot)
 
 abbrev pub Prints : Type 0
 Prints = (widths : List ℕ) (h : Hub) → Fresh h → (rs : List Request) (slot : ℕ) →
     let now = steps widths h rs in
-    isOpen (entryOf now slot) ≡ true → Printable (take (entryOf now slot .state .used) (areaOf (now .records) slot))
+    0 < entryOf now slot .key → Printable (printed now slot)
 
--- ---- REPEAT (demand 3): a request that was once accepted in such a history, sent again at any later time, also after its slot was closed
--- and opened under a new key. It changes no byte and no entry. Its answer goes by the slot's entry at that time.
+-- ---- ON THE SHEET: every record of such a slot lies on its job's sheet.
+
+pub record OnItsSheet (widths : List ℕ) (d : Descriptor) (bytes : List ℕ) : Type 0 where
+  pub items : List Item
+  pub itsBytes : bytes ≡ allBytes items
+  pub onSheet : allOnSheet widths d items ≡ true
+
+abbrev pub OnTheSheet : Type 0
+OnTheSheet = (widths : List ℕ) (h : Hub) → Fresh h → (rs : List Request) (slot : ℕ) →
+    let now = steps widths h rs in
+    0 < entryOf now slot .key → OnItsSheet widths (entryOf now slot .descriptor) (printed now slot)
+
+-- ---- REPEAT (demand 3): a request that was once accepted, sent again at any later time, also after its slot was closed and opened under a new
+-- key. It changes no byte and no entry, whatever table it began with. In a history its answer goes by the slot's entry at that time.
 
 -- an open: 1 while its own job is open, 13 while another is, else 14; a submit: 1 while its own job is open, else 16;
 -- a close: 1 as long as its key is the last one (and above 0), else 16
-abbrev pub repeated : Request → Entry → ℕ
-repeated (Open slot key d) e = if isOpenUnder e key then 1 else if isOpen e then 13 else 14
-repeated (Submit slot key number part) e = if isOpenUnder e key then 1 else 16
-repeated (Close slot key) e = if eqb (e .key) key && ltb 0 key then 1 else 16
+abbrev pub resent : Request → Entry → ℕ
+resent (Open slot key d) e = if isOpenUnder e key then 1 else if isOpen e then 13 else 14
+resent (Submit slot key number part) e = if isOpenUnder e key then 1 else 16
+resent (Close slot key) e = if eqb (e .key) key && ltb 0 key then 1 else 16
 
-abbrev pub Repeat : Type 0
-Repeat = (widths : List ℕ) (h : Hub) → Fresh h → (before : List Request) (r : Request) (later : List Request) →
-    let once = steps widths h before in
-    let now = steps widths h (before ++ r ∷ later) in
-    step widths once r .answer .code ≡ 0 →
-    (step widths now r .after ≡ now) × (step widths now r .answer ≡ refusal (repeated r (entryOf now (slotOf r))))
-
--- ---- UNTOUCHED ("Every code but 0 .. leaves all that was lent untouched; with 0, everything not named stays"): any request, whatever is lent.
-
--- the record bytes that an accepted request writes: a submit those from `used` up to the new `used`, open and close none
-abbrev pub Writes : Request → Entry → Entry → ℕ → Type 0
-Writes (Open slot key d) e f at = ⊥
-Writes (Submit slot key number part) e f at = (4096 * slot + e .state .used ≤ at) × (at < 4096 * slot + f .state .used)
-Writes (Close slot key) e f at = ⊥
-
--- what it leaves of its own entry: a submit all but the state and next, close all but the open mark
-abbrev pub Leaves : Request → Entry → Entry → Type 0
-Leaves (Open slot key d) e f = Unit
-Leaves (Submit slot key number part) e f = f ≡ goneOn e (f .state)
-Leaves (Close slot key) e f = f ≡ closed e
-
-pub record OnlyItsOwn (r : Request) (h now : Hub) : Type 0 where
-  pub entries : (slot : ℕ) → (slot ≡ slotOf r → ⊥) → entryOf now slot ≡ entryOf h slot
-  pub itsEntry : Leaves r (entryOf h (slotOf r)) (entryOf now (slotOf r))
-  pub bytes : (at : ℕ) → (Writes r (entryOf h (slotOf r)) (entryOf now (slotOf r)) at → ⊥) → getD (now .records) at 0 ≡ getD (h .records) at 0
-  pub tableSize : length (now .table) ≡ length (h .table)
-  pub recordsSize : length (now .records) ≡ length (h .records)
-
-pub record Untouched : Type 0 where
-  pub refused : (widths : List ℕ) (h : Hub) (r : Request) → (step widths h r .answer .code ≡ 0 → ⊥) → step widths h r .after ≡ h
-  pub accepted : (widths : List ℕ) (h : Hub) (r : Request) → step widths h r .answer .code ≡ 0 → OnlyItsOwn r h (step widths h r .after)
+pub record Repeat : Type 0 where
+  pub changesNothing : (widths : List ℕ) (h : Hub) (r : Request) (later : List Request) →
+      let now = steps widths (step widths h r .after) later in
+      step widths h r .answer .code ≡ 0 → step widths now r .after ≡ now
+  pub answers : (widths : List ℕ) (h : Hub) → Fresh h → (before : List Request) (r : Request) (later : List Request) →
+      let now = steps widths h (before ++ r ∷ later) in
+      step widths (steps widths h before) r .answer .code ≡ 0 → step widths now r .answer ≡ refusal (resent r (entryOf now (slotOf r)))
