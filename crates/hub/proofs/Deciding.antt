@@ -93,6 +93,9 @@ module _ (widths : List ℕ) (h : Hub) where
   pub whole : (slot key number : ℕ) (part : List ℕ) → Here (Submit slot key number part) → length (h .records) ≡ 65536
   whole slot key number part x = sizes (x .lent) .1
 
+  pub lent-widths : (slot key number : ℕ) (part : List ℕ) → Here (Submit slot key number part) → length widths ≡ 1024
+  lent-widths slot key number part x = eqb-true (length widths) 1024 (second-of (isTable (h .table) && eqb (length (h .records)) 65536) (eqb (length widths) 1024) (x .lent))
+
   pub there : (r : Request) → Here r → entryOf (step widths h r .after) (slotOf r) ≡ onEntry widths h r (entryOf h (slotOf r)) .entry
   there r x =
       let n = sixteen r (x .lent) in

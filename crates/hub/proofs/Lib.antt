@@ -10,6 +10,7 @@ pub mod Holding
 pub mod Printing
 pub mod Rising
 pub mod Repeating
+pub mod Telling
 pub mod Contracts
 pub mod Coding
 pub mod Cases

@@ -1,9 +1,9 @@
 -- A request sees of what is lent the lengths, its slot's entry and its slot's area, and puts back an entry and an area there.
 -- Assumes nothing.
 use Prim.Native.Nat.{ℕ}
-use mathlib.Core.Path.{_≡_, refl, sym}
+use mathlib.Core.Path.{_≡_, refl, sym, _∙_}
 use mathlib.Core.Bool.{Bool, true, false}
-use mathlib.Core.List.{List}
+use mathlib.Core.List.{List, [], _∷_}
 use lib.ListN.{length, set, length-set}
 use lib.Seq.{getD-set-other, set-getD}
 use lib.Dec.{ltb}
@@ -12,7 +12,7 @@ use Rattle.part.specs.Part.{areaAfter}
 use Rattle.part.specs.declared.shapes.Answer.{Answer}
 use Rattle.part.proofs.Areas.{area-length}
 use Rattle.hub.specs.Entries.{fresh}
-use Rattle.hub.specs.Requests.{maySubmit, passes, opening, closing, submitting, areaTaken, areaOf, withArea, refusal, Hub, hub, Request, Open, Submit, Close, slotOf, Reply, isLent, onEntry, onRecords, step}
+use Rattle.hub.specs.Requests.{maySubmit, passes, opening, closing, submitting, areaTaken, areaOf, withArea, refusal, Hub, hub, Request, Open, Submit, Close, slotOf, Reply, isLent, onEntry, onRecords, step, steps}
 use Rattle.hub.specs.Histories.{entryOf}
 use Rattle.hub.specs.declared.jobs.Entry.{Entry}
 use Rattle.hub.specs.declared.jobs.Out.{Out}
@@ -137,3 +137,8 @@ module _ (widths : List ℕ) where
 
     pub other-area : (slot : ℕ) → (slotOf r ≡ slot → ⊥) → areaOf (step widths h r .after .records) slot ≡ areaOf (h .records) slot
     other-area slot n = rw (step-is h r) (with-unseen (h .records) (slotOf r) slot _ n (fits h r))
+
+  pub steps-lent : (h : Hub) (rs : List Request) (r : Request) → isLent widths (steps widths h rs) r ≡ isLent widths h r
+  unfolding steps
+  steps-lent h [] r = refl
+  steps-lent h (q ∷ rs) r = steps-lent (step widths h q .after) rs r ∙ step-lent h q r

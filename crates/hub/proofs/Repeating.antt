@@ -17,7 +17,7 @@ use Rattle.hub.specs.Requests.{mayOpen, judged, maySubmit, mayClose, ope
 use Rattle.hub.specs.Histories.{entryOf}
 use Rattle.hub.specs.Promises.{resent, Fresh, Repeat}
 use Rattle.hub.specs.declared.jobs.Entry.{Entry}
-use Rattle.hub.proofs.Reaching.{step-lent}
+use Rattle.hub.proofs.Reaching.{step-lent, steps-lent}
 use Rattle.hub.proofs.Deciding.{Here, here, there, Passed, Decision, refused, done, decision}
 use Rattle.hub.proofs.Leaving.{refused-stays}
 use Rattle.hub.proofs.Holding.{under-open, awaits, holds}
@@ -124,11 +124,6 @@ module _ (widths : List ℕ) where
   fault-answered h (Submit slot key number part) f is = rw is
   fault-answered h (Close slot key) f is = rw is
 
-  steps-lent : (h : Hub) (rs : List Request) (r : Request) → isLent widths (steps widths h rs) r ≡ isLent widths h r
-  unfolding steps
-  steps-lent h [] r = refl
-  steps-lent h (q ∷ rs) r = steps-lent (step widths h q .after) rs r ∙ step-lent widths h q r
-
   -- from any table, also one with damaged entries
   pub record SentAgain (now : Hub) (r : Request) : Type 0 where
     pub unchanged : step widths now r .after ≡ now
@@ -157,7 +152,7 @@ module _ (widths : List ℕ) where
       go (refused q same) = absurd (eqb-false _ 0 q nought)
       go (done _ x passed) =
           let left = step widths h r .after in
-          past-again (steps widths left later) r (entryOf left (slotOf r)) (steps-lent left later r ∙ step-lent widths h r r ∙ x .lent) (x .low) (passed-past widths h r x passed) (steps-later widths left later (slotOf r))
+          past-again (steps widths left later) r (entryOf left (slotOf r)) (steps-lent widths left later r ∙ step-lent widths h r r ∙ x .lent) (x .low) (passed-past widths h r x passed) (steps-later widths left later (slotOf r))
 
 answered-again : (widths : List ℕ) (h : Hub) → Fresh h → (before : List Request) (r : Request) (later : List Request) → step widths (steps widths h before) r .answer .code ≡ 0
     → step widths (steps widths h (before ++ r ∷ later)) r .answer ≡ refusal (resent r (entryOf (steps widths h (before ++ r ∷ later)) (slotOf r)))
