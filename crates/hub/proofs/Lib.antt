@@ -11,6 +11,7 @@ pub mod Printing
 pub mod Rising
 pub mod Repeating
 pub mod Telling
+pub mod Answering
 pub mod Contracts
 pub mod Coding
 pub mod Cases

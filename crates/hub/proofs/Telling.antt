@@ -23,7 +23,7 @@ use Rattle.part.specs.declared.shapes.Interpreted.{Interpreted}
 use Rattle.part.proofs.Checks.{first-of}
 use Rattle.hub.specs.Entries.{isOpen, isOpenUnder, damaged}
 use Rattle.hub.specs.Requests.{mayOpen, judged, maySubmit, mayClose, out, decided, partTaken, opening, closing, submitting, areaOf, refusal, Hub, Request, Open, Submit, Close, slotOf, isLent, onEntry, step, steps}
-use Rattle.hub.specs.Accounts.{Job, Account, unused, running, ended, lastKey, isRunning, byTheRules, isOneOf, toOpen, toClose, goesOn, behind, toPart, toSubmit, tells, told, asAnswer}
+use Rattle.hub.specs.Accounts.{Job, Account, unused, running, ended, lastKey, isRunning, byTheRules, isOneOf, toOpen, toClose, goesOn, behind, toPart, toSubmit, tells, isWellLent, told, asAnswer}
 use Rattle.hub.specs.Histories.{entryOf, account}
 use Rattle.hub.specs.Promises.{counting, Fresh, Kept, Agrees, Tells}
 use Rattle.hub.specs.declared.jobs.Entry.{Entry}
@@ -229,12 +229,18 @@ lent-told true true a m k = k refl refl
 lent-told true false a m k = refl
 lent-told false u a m k = refl
 
+-- a fresh table has its length
+well-lent : (widths : List ℕ) (h : Hub) → Fresh h → (r : Request) → isLent widths h r ≡ isWellLent widths h r
+well-lent widths h f (Open slot key d) = rw (f .sixteen)
+well-lent widths h f (Submit slot key number part) = rw (f .sixteen)
+well-lent widths h f (Close slot key) = rw (f .sixteen)
+
 pub as-told : Tells
 unfolding step told
 as-told widths h f before r =
     let now = steps widths h before in
     let a = account widths (slotOf r) h unused before in
     let k = holds widths h f before (slotOf r) in
-    let lent = steps-lent widths h before r in
-    rw lent (lent-told (isLent widths h r) (ltb (slotOf r) 16) (onEntry widths now r (entryOf now (slotOf r)) .answer) (tells widths a r)
+    let lent = steps-lent widths h before r ∙ well-lent widths h f r in
+    rw lent (lent-told (isWellLent widths h r) (ltb (slotOf r) 16) (onEntry widths now r (entryOf now (slotOf r)) .answer) (tells widths a r)
     (λ yes low. its-told widths now a r (lent ∙ yes) (ltb-true (slotOf r) 16 low) (k .0) (k .1)))

@@ -16,7 +16,7 @@ use Rattle.part.specs.declared.shapes.Descriptor.{Descriptor}
 use Rattle.part.specs.declared.shapes.State.{State}
 use Rattle.part.specs.declared.shapes.Answer.{Answer}
 use Rattle.hub.specs.Entries.{firstState}
-use Rattle.hub.specs.Requests.{Hub, Request, Open, Submit, Close, slotOf, isLent}
+use Rattle.hub.specs.Requests.{Hub, Request, Open, Submit, Close, slotOf}
 
 -- ---- what is known of a slot
 
@@ -130,10 +130,16 @@ module _ (widths : List ℕ) where
   tells a (Submit slot key number part) = toSubmit a key number part
   tells a (Close slot key) = toClose a key
 
-  -- 10 and 11 go before it; of what is lent only the lengths are looked at
+  -- open and close are lent the table only; a submit also the record buffer of 65,536 bytes and the 1,024 widths
+  abbrev pub isWellLent : Hub → Request → Bool
+  isWellLent h (Open slot key d) = true
+  isWellLent h (Submit slot key number part) = eqb (length (h .records)) 65536 && eqb (length widths) 1024
+  isWellLent h (Close slot key) = true
+
+  -- before it come 10, where something lent beside the table of 16 has another length, and 11 for a slot above 15
   unfoldable pub told : Hub → Account → Request → Checked Answer
   told h a r = do
-    require (isLent widths h r) 10
+    require (isWellLent h r) 10
     require (ltb (slotOf r) 16) 11
     tells a r
 
