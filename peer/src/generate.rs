@@ -5,12 +5,14 @@
 //! part can be long and accepted, or fail at just the element that was meant.
 
 mod elements;
+mod ground;
 mod numbers;
 mod parts;
 mod requests;
 mod rng;
 
+pub use ground::Ground;
 pub use numbers::{descriptor, entry, state, Reach};
-pub use parts::{case, mutate, part, sized_part, Case, Ground};
+pub use parts::{case, mutate, part, sized_part, Case};
 pub use requests::Requests;
 pub use rng::Rng;

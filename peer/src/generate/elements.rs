@@ -1,6 +1,6 @@
 //! One element at a time, with the edges of every parameter among its values.
 
-use super::parts::Ground;
+use super::ground::Ground;
 use super::rng::Rng;
 use crate::model::{position, AREA, COLOURS, GREATEST_POSITION, LEAST_POSITION};
 use crate::reader::{self, CHAIN, CLASS, PREFIX, TYPES};

@@ -1,7 +1,8 @@
 //! Sequences of requests, steered by running them on this crate's hub.
 
+use super::ground::Ground;
 use super::numbers::{self, Reach};
-use super::parts::{self, Ground};
+use super::parts;
 use super::rng::Rng;
 use crate::model::{Descriptor, Entry, AREA, RECORDS, SLOTS, WIDTHS};
 use crate::replay::{Peer, Replay, Said};
