@@ -1,19 +1,8 @@
 //! Calls that need no table: the direct interpreter and the check.
 
+use crate::answer::{Answer, Code};
 use crate::ffi;
-use crate::shapes::{Descriptor, State};
-use crate::{Answer, Code};
-
-/// The answer to a part, and the state to go on from.
-#[repr(C)]
-#[derive(Clone, Copy, Debug, PartialEq, Eq)]
-#[must_use = "only the code says whether the part was taken"]
-pub struct Interpreted {
-    /// 0, 10, 12, 15 or 19 to 29.
-    pub answer: Answer,
-    /// Where the part ends; with a refusal the state that was given.
-    pub state: State,
-}
+use crate::shapes::{Descriptor, Interpreted, State};
 
 /// Interprets one part from a state, for a host that keeps its own table.
 ///

@@ -3,9 +3,8 @@
 //! A slice is its pointer and its length; structs go by value. The library keeps
 //! no pointer, and takes any numbers, bytes and lengths.
 
-use crate::direct::Interpreted;
-use crate::shapes::{Descriptor, Entry, State, Table};
-use crate::Answer;
+use crate::answer::Answer;
+use crate::shapes::{Descriptor, Entry, Interpreted, State, Table};
 
 mod c {
     use super::*;

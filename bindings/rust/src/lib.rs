@@ -58,10 +58,10 @@ mod records;
 mod shapes;
 
 pub use answer::{Answer, Code};
-pub use direct::{check, first_state, interpret, Interpreted};
+pub use direct::{check, first_state, interpret};
 pub use hub::Hub;
 pub use records::{Record, Records};
-pub use shapes::{Descriptor, Entry, Point, State};
+pub use shapes::{Descriptor, Entry, Interpreted, Point, State};
 
 /// Entries of the table.
 pub const SLOTS: usize = 16;

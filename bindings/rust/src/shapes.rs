@@ -2,6 +2,7 @@
 //!
 //! Every number is 32 bits and there is no padding, so whatever memory holds is a value.
 
+use crate::answer::Answer;
 use crate::{ORIGIN, SLOTS};
 
 /// Two numbers, one for each axis.
@@ -80,6 +81,17 @@ impl State {
     }
 }
 
+/// The answer to a part, and the state to go on from.
+#[repr(C)]
+#[derive(Clone, Copy, Debug, PartialEq, Eq)]
+#[must_use = "only the code says whether the part was taken"]
+pub struct Interpreted {
+    /// 0, 10, 12, 15 or 19 to 29.
+    pub answer: Answer,
+    /// Where the part ends; with a refusal the state that was given.
+    pub state: State,
+}
+
 /// One slot of the table.
 #[repr(C)]
 #[derive(Clone, Copy, Debug, PartialEq, Eq)]
@@ -124,6 +136,7 @@ mod tests {
         assert_eq!((offset_of!(State, chain), offset_of!(State, used)), (40, 44));
         assert_eq!((offset_of!(Entry, descriptor), offset_of!(Entry, state)), (8, 56));
         assert_eq!(offset_of!(Entry, next), 104);
+        assert_eq!((size_of::<Interpreted>(), offset_of!(Interpreted, state)), (60, 12));
     }
 
     #[test]
