@@ -70,11 +70,11 @@ def used(text):
 
 
 def clash(sites):
-    """Whether the sites of one name are too many: only fields of records may share theirs."""
+    """Whether the sites of one name are too many. A field is read behind its record, so it may be called like what it holds; never like the kit's."""
     kinds = [site.kind for site, _ in sites]
     fields, kit = kinds.count('field'), kinds.count('name of the kit')
     own = len(kinds) - fields - kit
-    return own > 1 or own > 0 and fields > 0 or own + fields > 0 and (kit > 0 or sites[0][0].name in KIT)
+    return own > 1 or own + fields > 0 and (kit > 0 or sites[0][0].name in KIT)
 
 
 def clashes(texts):

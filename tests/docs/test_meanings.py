@@ -62,11 +62,11 @@ class Clash(unittest.TestCase):
     def test_a_constructor_and_a_definition(self):
         self.assertEqual(self.names('pub data B : Type 0 where\n  a : B', 'pub a : ℕ'), ['a'])
 
-    def test_a_field_and_a_definition(self):
-        self.assertEqual(self.names('pub record A : Type 0 where\n  pub n : ℕ', 'pub n : ℕ'), ['n'])
-
-    def test_two_fields_may_share_a_name(self):
-        self.assertEqual(self.names('pub record A : Type 0 where\n  pub n : ℕ', 'pub record B : Type 0 where\n  pub n : ℕ'), [])
+    def test_a_field_may_share_its_name(self):
+        field = 'pub record A : Type 0 where\n  pub n : ℕ'
+        self.assertEqual(self.names(field, 'pub record B : Type 0 where\n  pub n : ℕ'), [])
+        self.assertEqual(self.names(field, 'pub n : ℕ'), [])
+        self.assertEqual(self.names(field, 'pub n : ℕ', 'pub data B : Type 0 where\n  n : B'), ['n'])
 
     def test_a_field_like_the_kit_s(self):
         self.assertEqual(clashes({'a': 'pub record A : Type 0 where\n  pub length : ℕ'}), ["length: field a:2, the kit's length"])
