@@ -9,7 +9,7 @@ use borrow.Author.Tests.{lt-ltb, le-ltb}
 use lib.ListN.{length, length-append}
 use lib.Dec.{ltb}
 use Rattle.part.specs.Numbers.{if_then_else_}
-use Rattle.listing.specs.Lines.{digits, space, minus, middle, number, numbers, hexByte, hex}
+use Rattle.listing.specs.Lines.{digits, space, minusSign, middle, numeral, numbers, hexByte, hexBytes}
 use Rattle.listing.proofs.Each.{each-short}
 
 pub at-most : (most n : ℕ) → length (digits most n) ≤ most
@@ -41,15 +41,15 @@ more-digits (suc most) n h l =
     rw (le-ltb n 10 l) (ap (λ (k : ℕ). digits k (n / 10) ++ ((0x30 + n % 10) ∷ [])) one-less)
 
 -- a minus and five digits
-pub number-short : (kept : ℕ) → length (number kept) ≤ 6
+pub number-short : (kept : ℕ) → length (numeral kept) ≤ 6
 number-short kept = go (ltb kept middle)
   where
-    go : (b : Bool) → length (if b then minus ∷ digits 5 (middle - kept) else digits 5 (kept - middle)) ≤ 6
+    go : (b : Bool) → length (if b then minusSign ∷ digits 5 (middle - kept) else digits 5 (kept - middle)) ≤ 6
     go true = let h = at-most 5 (middle - kept) in omega arith
     go false = let h = at-most 5 (kept - middle) in omega arith
 
 pub numbers-short : (ns : List ℕ) → length (numbers ns) ≤ 7 * length ns
-numbers-short ns = each-short (λ n. space ∷ number n) 7 (λ n. let h = number-short n in omega arith) ns
+numbers-short ns = each-short (λ n. space ∷ numeral n) 7 (λ n. let h = number-short n in omega arith) ns
 
-pub hex-short : (bytes : List ℕ) → length (hex bytes) ≤ 2 * length bytes
+pub hex-short : (bytes : List ℕ) → length (hexBytes bytes) ≤ 2 * length bytes
 hex-short bytes = each-short hexByte 2 (λ n. omega arith) bytes

@@ -11,14 +11,14 @@ use lib.Seq.{take-all, length-take-le, drop-drop}
 use lib.Dec.{leb, eqb}
 use Rattle.part.specs.Numbers.{if_then_else_}
 use Rattle.part.specs.Records.{littleAt, isWhole}
-use Rattle.listing.specs.Lines.{space, newline, hex, numbers}
+use Rattle.listing.specs.Lines.{space, newline, hexBytes, numbers}
 use Rattle.listing.specs.Listing.{«T», «R», textNumbers, ruleNumbers, textLine, ruleLine, recordLine, recordLines}
 use Rattle.listing.proofs.Digits.{numbers-short, hex-short}
 
 text-short : (r : List ℕ) → 16 ≤ length r → length (textLine r) ≤ 3 * length r
 text-short r h =
-    let a = length-append («T» ++ numbers (textNumbers r)) (((space ∷ []) ++ hex (drop 16 r)) ++ newline) in
-    let b = length-append (hex (drop 16 r)) newline in
+    let a = length-append («T» ++ numbers (textNumbers r)) (((space ∷ []) ++ hexBytes (drop 16 r)) ++ newline) in
+    let b = length-append (hexBytes (drop 16 r)) newline in
     let c = numbers-short (textNumbers r) in
     let d = hex-short (drop 16 r) in
     let e = length-drop 16 r in

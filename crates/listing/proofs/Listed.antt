@@ -14,12 +14,12 @@ use Rattle.part.specs.declared.shapes.State.{State}
 use Rattle.part.proofs.Stores.{there}
 use Rattle.part.proofs.Areas.{area-length}
 use Rattle.part.proofs.Accepting.{accepted}
-use Rattle.listing.specs.Lines.{newline, numbers, line}
+use Rattle.listing.specs.Lines.{newline, numbers, lineOf}
 use Rattle.listing.specs.Listing.{recordLines, partLine, endLine, refusedLine, outcomeLines, listing}
 use Rattle.listing.proofs.Puts.{Puts, keeps}
 use Rattle.listing.proofs.Digits.{numbers-short}
 
-pub line-length : (word ns : List ℕ) → length (line word ns) ≤ length word + 7 * length ns + 1
+pub line-length : (word ns : List ℕ) → length (lineOf word ns) ≤ length word + 7 * length ns + 1
 line-length word ns =
     let a = length-append (word ++ numbers ns) newline in
     let b = length-append word (numbers ns) in

@@ -7,8 +7,8 @@ use Rattle.part.specs.Numbers.{if_then_else_}
 abbrev pub space : ℕ
 space = 0x20
 
-abbrev pub minus : ℕ
-minus = 0x2D
+abbrev pub minusSign : ℕ
+minusSign = 0x2D
 
 abbrev pub newline : List ℕ
 newline = 0x0A ∷ []
@@ -22,8 +22,8 @@ digits (suc most) n = (if ltb n 10 then [] else digits most (n / 10)) ++ ((0x30 
 abbrev pub middle : ℕ
 middle = 65536
 
-abbrev pub number : ℕ → List ℕ
-number kept = if ltb kept middle then minus ∷ digits 5 (middle - kept) else digits 5 (kept - middle)
+abbrev pub numeral : ℕ → List ℕ
+numeral kept = if ltb kept middle then minusSign ∷ digits 5 (middle - kept) else digits 5 (kept - middle)
 
 -- the texts of some numbers, one behind the other
 unfoldable pub each : (ℕ → List ℕ) → List ℕ → List ℕ
@@ -32,7 +32,7 @@ each text (n ∷ ns) = text n ++ each text ns
 
 -- a space before each
 abbrev pub numbers : List ℕ → List ℕ
-numbers = each (λ n. space ∷ number n)
+numbers = each (λ n. space ∷ numeral n)
 
 abbrev pub hexDigit : ℕ → ℕ
 hexDigit n = if ltb n 10 then 0x30 + n else 0x37 + n
@@ -41,13 +41,13 @@ hexDigit n = if ltb n 10 then 0x30 + n else 0x37 + n
 abbrev pub hexByte : ℕ → List ℕ
 hexByte b = hexDigit (b / 16) ∷ hexDigit (b % 16) ∷ []
 
-abbrev pub hex : List ℕ → List ℕ
-hex = each hexByte
+abbrev pub hexBytes : List ℕ → List ℕ
+hexBytes = each hexByte
 
 -- a word and numbers, and the end of the line
-abbrev pub line : List ℕ → List ℕ → List ℕ
-line word ns = (word ++ numbers ns) ++ newline
+abbrev pub lineOf : List ℕ → List ℕ → List ℕ
+lineOf word ns = (word ++ numbers ns) ++ newline
 
 -- characters behind a space, in hexadecimal, and the end of the line
-abbrev pub characters : List ℕ → List ℕ
-characters bytes = ((space ∷ []) ++ hex bytes) ++ newline
+abbrev pub charactersInHex : List ℕ → List ℕ
+charactersInHex bytes = ((space ∷ []) ++ hexBytes bytes) ++ newline

@@ -12,11 +12,11 @@ use Rattle.part.specs.Ranges.{descriptorFields, stateFields}
 use Rattle.part.specs.Types.{types}
 use Rattle.part.specs.Reading.{sequence, element, cutFrom, cut}
 use Rattle.part.specs.Presenting.{moved}
-use Rattle.part.specs.Text.{character, characters as charactersAlong, cycle}
+use Rattle.part.specs.Text.{character, characters, cycle}
 use Rattle.part.specs.Place.{placeText, placeRule, place}
-use Rattle.part.specs.Sheets.{descriptor, fresh, hex as bytes}
+use Rattle.part.specs.Sheets.{descriptor, fresh, hex}
 use Rattle.part.specs.declared.shapes.Interpreted.{Interpreted}
-use Rattle.listing.specs.Lines.{digits, middle, each, numbers, line, characters}
+use Rattle.listing.specs.Lines.{digits, middle, each, numbers, lineOf, charactersInHex}
 
 -- ---- the words, in ASCII
 
@@ -58,14 +58,14 @@ abbrev pub textNumbers : List ℕ → List ℕ
 textNumbers r = signedAt r 4 ∷ signedAt r 6 ∷ plainAt r 8 ∷ plainAt r 10 ∷ signedAt r 12 ∷ plainAt r 14 ∷ []
 
 abbrev pub textLine : List ℕ → List ℕ
-textLine r = («T» ++ numbers (textNumbers r)) ++ characters (drop 16 r)
+textLine r = («T» ++ numbers (textNumbers r)) ++ charactersInHex (drop 16 r)
 
 -- R, for a rule: I, B, 0 or 1, colour, length, width.
 abbrev pub ruleNumbers : List ℕ → List ℕ
 ruleNumbers r = signedAt r 4 ∷ signedAt r 6 ∷ plainAt r 8 ∷ plainAt r 10 ∷ plainAt r 12 ∷ plainAt r 14 ∷ []
 
 abbrev pub ruleLine : List ℕ → List ℕ
-ruleLine r = line «R» (ruleNumbers r)
+ruleLine r = lineOf «R» (ruleNumbers r)
 
 abbrev pub recordLine : List ℕ → List ℕ
 recordLine r = if eqb (littleAt r 2) 1 then textLine r else ruleLine r
@@ -83,15 +83,15 @@ recordLines (suc most) bytes =
 
 -- END: final I and B, elements, record bytes.
 abbrev pub endLine : Interpreted → List ℕ
-endLine r = line «END» (position (r .state .at .i) ∷ position (r .state .at .b) ∷ plain (r .answer .first) ∷ plain (r .answer .second) ∷ [])
+endLine r = lineOf «END» (position (r .state .at .i) ∷ position (r .state .at .b) ∷ plain (r .answer .first) ∷ plain (r .answer .second) ∷ [])
 
 -- A refusal prints after PART only REFUSED, code, offset (0 for 19).
 abbrev pub refusedLine : Interpreted → List ℕ
-refusedLine r = line «REFUSED» (plain (r .answer .code) ∷ plain (r .answer .first) ∷ [])
+refusedLine r = lineOf «REFUSED» (plain (r .answer .code) ∷ plain (r .answer .first) ∷ [])
 
 -- PART gives bytes read.
 abbrev pub partLine : ℕ → List ℕ
-partLine n = line «PART» (plain n ∷ [])
+partLine n = lineOf «PART» (plain n ∷ [])
 
 unfoldable pub outcomeLines : Interpreted → List ℕ → List ℕ
 outcomeLines r area = if eqb (r .answer .code) 0 then recordLines 256 (take (r .state .used) area) ++ endLine r else refusedLine r
@@ -108,10 +108,10 @@ listing part =
 -- PART 12 / T 720 480 0 65287 0 65535 C1C2 / END 1008 480 3 18
 abbrev pub example : List ℕ
 example =
-    bytes 0x504152542031320A
-    ++ bytes 0x5420373230203438302030 ++ bytes 0x2036353238372030203635353335 ++ bytes 0x20433143320A
-    ++ bytes 0x454E44203130303820343830 ++ bytes 0x20332031380A
+    hex 0x504152542031320A
+    ++ hex 0x5420373230203438302030 ++ hex 0x2036353238372030203635353335 ++ hex 0x20433143320A
+    ++ hex 0x454E44203130303820343830 ++ hex 0x20332031380A
 
-pub example-holds : listing (bytes 0x2BD304C702D004D201E0C1C2) ≡ example
-unfolding listing outcomeLines recordLines each digits descriptorFields stateFields types sequence element cutFrom cut bytesOf moved character charactersAlong cycle placeText placeRule place placed passedBy elementsBy admitted outcome interpreted areaAfter
+pub example-holds : listing (hex 0x2BD304C702D004D201E0C1C2) ≡ example
+unfolding listing outcomeLines recordLines each digits descriptorFields stateFields types sequence element cutFrom cut bytesOf moved character characters cycle placeText placeRule place placed passedBy elementsBy admitted outcome interpreted areaAfter
 example-holds = refl

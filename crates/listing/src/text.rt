@@ -4,7 +4,7 @@ ghost use Prim.Native.Nat.{_+_, _*_, _≤_, _<_};
 ghost use mathlib.Core.List.{[], _∷_, _++_};
 ghost use lib.ListN.{length};
 ghost use lib.Seq.{sets};
-ghost use Rattle.listing.specs.Lines.{digits, number, numbers, hexDigit, hexByte, hex, line, characters};
+ghost use Rattle.listing.specs.Lines.{digits, numeral, numbers, hexDigit, hexByte, hexBytes, lineOf, charactersInHex};
 use part::record::store;
 
 // Numbers are kept plus this, so that none is negative.
@@ -47,7 +47,7 @@ fn put_digits(out: &mut [u8], at: usize, n: u64, most: usize) -> usize
 // A number, with a minus where it is negative.
 fn put_number(out: &mut [u8], at: usize, kept: u64) -> usize
     requires { ⌜ at + 6 ≤ length (now out) ⌝ }
-    ensures { λ r. ⌜ (r ≡ at + length (number kept)) × (now (out .exit) ≡ sets (now (out .entry)) at (number kept)) ⌝ }
+    ensures { λ r. ⌜ (r ≡ at + length (numeral kept)) × (now (out .exit) ≡ sets (now (out .entry)) at (numeral kept)) ⌝ }
 {
     if kept < MIDDLE {
         let to = put_one(out, at, b'-');
@@ -91,7 +91,7 @@ fn put_byte(out: &mut [u8], at: usize, b: u8) -> usize
 // Bytes in capital hexadecimal.
 fn put_hex(out: &mut [u8], at: usize, bytes: &[u8]) -> usize
     requires { ⌜ at + 2 * length (now bytes) ≤ length (now out) ⌝ }
-    ensures { λ r. ⌜ (r ≡ at + length (hex (now (bytes .entry)))) × (now (out .exit) ≡ sets (now (out .entry)) at (hex (now (bytes .entry)))) ⌝ }
+    ensures { λ r. ⌜ (r ≡ at + length (hexBytes (now (bytes .entry)))) × (now (out .exit) ≡ sets (now (out .entry)) at (hexBytes (now (bytes .entry)))) ⌝ }
 {
     let mut k: usize = 0;
     let mut to = at;
@@ -114,7 +114,7 @@ pub fn put_fields(out: &mut [u8], at: usize, word: &[u8], ns: &[u64]) -> usize
 // A word and numbers, and the end of the line.
 pub fn put_line(out: &mut [u8], at: usize, word: &[u8], ns: &[u64]) -> usize
     requires { ⌜ at + length (now word) + 7 * length (now ns) + 1 ≤ length (now out) ⌝ }
-    ensures { λ r. ⌜ (r ≡ at + length (line (now (word .entry)) (now (ns .entry)))) × (now (out .exit) ≡ sets (now (out .entry)) at (line (now (word .entry)) (now (ns .entry)))) ⌝ }
+    ensures { λ r. ⌜ (r ≡ at + length (lineOf (now (word .entry)) (now (ns .entry)))) × (now (out .exit) ≡ sets (now (out .entry)) at (lineOf (now (word .entry)) (now (ns .entry)))) ⌝ }
 {
     let to = put_fields(out, at, word, ns);
     put_one(out, to, b'\n')
@@ -123,7 +123,7 @@ pub fn put_line(out: &mut [u8], at: usize, word: &[u8], ns: &[u64]) -> usize
 // Characters behind a space, in hexadecimal, and the end of the line.
 pub fn put_characters(out: &mut [u8], at: usize, bytes: &[u8]) -> usize
     requires { ⌜ at + 2 * length (now bytes) + 2 ≤ length (now out) ⌝ }
-    ensures { λ r. ⌜ (r ≡ at + length (characters (now (bytes .entry)))) × (now (out .exit) ≡ sets (now (out .entry)) at (characters (now (bytes .entry)))) ⌝ }
+    ensures { λ r. ⌜ (r ≡ at + length (charactersInHex (now (bytes .entry)))) × (now (out .exit) ≡ sets (now (out .entry)) at (charactersInHex (now (bytes .entry)))) ⌝ }
 {
     let to = put_one(out, at, b' ');
     let to = put_hex(out, to, bytes);

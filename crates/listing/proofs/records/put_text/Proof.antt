@@ -8,7 +8,7 @@ use lib.ListN.{length, take, drop, length-drop}
 use lib.Seq.{length-take-le, take-all}
 use denote.Ref.{now}
 use Rattle.listing.specs.Listing.{«T», textNumbers}
-use Rattle.listing.specs.Lines.{numbers, characters}
+use Rattle.listing.specs.Lines.{numbers, charactersInHex}
 use Rattle.listing.proofs.Puts.{then}
 use Rattle.listing.proofs.Digits.{numbers-short}
 use borrow.Author.Needs.{needs}
@@ -51,7 +51,7 @@ returns c =
     let a = c .before .before .before .before .before .before .before .before .before .before .before .before .before .before .args in
     let r = now (a .r) in
     let all : take (length r - 16) (drop 16 r) ≡ drop 16 r = take-all (length r - 16) (drop 16 r) (let h = length-drop 16 r in omega arith) in
-    then (now (a .out)) _ _ (a .at) _ _ («T» ++ numbers (textNumbers r)) (characters (drop 16 r))
+    then (now (a .out)) _ _ (a .at) _ _ («T» ++ numbers (textNumbers r)) (charactersInHex (drop 16 r))
     (rw (c .before .before .before .before .before .before .before .before .before .before .before .text-numbers .ensures) at (c .before .before .before .before .before .before .before .put-fields .ensures))
     (rw all at (c .before .before .put-characters .ensures))
 

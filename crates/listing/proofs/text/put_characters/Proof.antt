@@ -3,7 +3,7 @@
 use mathlib.Core.List.{[], _∷_}
 use native.Mathlib.Omega.{arith}
 use denote.Ref.{now}
-use Rattle.listing.specs.Lines.{space, newline, hex}
+use Rattle.listing.specs.Lines.{space, newline, hexBytes}
 use Rattle.listing.proofs.Puts.{then}
 use Rattle.listing.proofs.Digits.{hex-short}
 use borrow.Author.Needs.{needs}
@@ -26,7 +26,7 @@ same-length c = search needs
 returns : tie.Need-returns
 returns c =
     let a = c .before .before .before .before .before .before .before .before .before .before .before .before .before .before .args in
-    let digits = hex (now (a .bytes)) in
+    let digits = hexBytes (now (a .bytes)) in
     let two = then (now (a .out)) _ _ (a .at) _ _ (space ∷ []) digits (c .before .before .before .before .before .before .before .before .before .before .put-one .ensures) (c .before .before .before .before .before .before .put-hex .ensures) in
     then (now (a .out)) _ _ (a .at) _ _ (space ∷ digits) newline two (c .before .before .put-one2 .ensures)
 

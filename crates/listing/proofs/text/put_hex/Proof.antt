@@ -6,7 +6,7 @@ use native.Mathlib.Omega.{arith}
 use lib.ListN.{length, getD, drop}
 use borrow.Author.Needs.{needs}
 use denote.Ref.{now}
-use Rattle.listing.specs.Lines.{hexByte, hex}
+use Rattle.listing.specs.Lines.{hexByte, hexBytes}
 use Rattle.listing.proofs.Puts.{Left, onward, at-end}
 use Rattle.listing.proofs.Each.{each-none, each-more}
 use Rattle.listing.proofs.text.put_hex.Statement.{statement}
@@ -14,7 +14,7 @@ use Rattle.listing.proofs.text.put_hex.Tie as tie
 
 abbrev Inv-loop : tie.InvT-loop
 Inv-loop out₀ at bytes k₀ to₀ out k to =
-    (k ≤ length bytes) × ((to + 2 * (length bytes - k) ≤ length out₀) × ((length out ≡ length out₀) × Left out₀ at (hex bytes) out to (hex (drop k bytes))))
+    (k ≤ length bytes) × ((to + 2 * (length bytes - k) ≤ length out₀) × ((length out ≡ length out₀) × Left out₀ at (hexBytes bytes) out to (hexBytes (drop k bytes))))
 
 abbrev μ-loop : tie.MeasureT-loop
 μ-loop out₀ at bytes k₀ to₀ out k to = length bytes - k
@@ -40,7 +40,7 @@ loop-again c =
     let l = c .before .before .before .before .before .before .loop in
     let is = c .before .before .put-byte .ensures in
     let more = each-more hexByte (now (a .bytes)) (l .k) (c .before .before .before .before .before .loop-test .taken) in
-    let left = onward (now (a .out)) (a .at) (hex (now (a .bytes))) (l .out) (l .to) (hexByte (getD (now (a .bytes)) (l .k) 0)) (hex (drop (l .k + 1) (now (a .bytes)))) _ _ (rw more at (l .inv .1 .1 .1)) is in
+    let left = onward (now (a .out)) (a .at) (hexBytes (now (a .bytes))) (l .out) (l .to) (hexByte (getD (now (a .bytes)) (l .k) 0)) (hexBytes (drop (l .k + 1) (now (a .bytes)))) _ _ (rw more at (l .inv .1 .1 .1)) is in
     (omega arith, (omega (arith, is .0, l .inv .1 .0), (c .before .before .put-byte .kept .0 ∙ l .inv .1 .1 .0, left)))
 
 same-length : tie.Need-same-length Inv-loop μ-loop
@@ -50,7 +50,7 @@ returns : tie.Need-returns Inv-loop μ-loop
 returns c =
     let a = c .before .before .before .before .args in
     let l = c .before .loop in
-    at-end (now (a .out)) (a .at) (hex (now (a .bytes))) (l .out) (l .to) (rw (each-none hexByte (now (a .bytes)) (l .k) (c .loop-test .left)) at (l .inv .1 .1 .1))
+    at-end (now (a .out)) (a .at) (hexBytes (now (a .bytes))) (l .out) (l .to) (rw (each-none hexByte (now (a .bytes)) (l .k) (c .loop-test .left)) at (l .inv .1 .1 .1))
 
 pub put-hex-spec : {M : Type 1} → statement M
 put-hex-spec =

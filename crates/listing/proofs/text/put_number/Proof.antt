@@ -5,7 +5,7 @@ use Prim.Native.Nat.{_-_}
 use mathlib.Core.List.{[], _∷_}
 use denote.Ref.{now}
 use borrow.Author.Needs.{needs}
-use Rattle.listing.specs.Lines.{minus, middle, digits}
+use Rattle.listing.specs.Lines.{minusSign, middle, digits}
 use Rattle.listing.proofs.Puts.{then}
 use Rattle.listing.proofs.text.put_number.Statement.{statement}
 use Rattle.listing.proofs.text.put_number.Tie as tie
@@ -26,7 +26,7 @@ returns : tie.Need-returns
 returns c =
     let a = c .before .before .before .before .before .before .before .before .before .before .args in
     rw (lt-ltb (a .kept) middle (c .before .before .before .before .before .before .before .before .if1 .taken))
-    (then (now (a .out)) _ _ (a .at) _ _ (minus ∷ []) (digits 5 (middle - a .kept)) (c .before .before .before .before .before .before .put-one .ensures) (c .before .before .put-digits .ensures))
+    (then (now (a .out)) _ _ (a .at) _ _ (minusSign ∷ []) (digits 5 (middle - a .kept)) (c .before .before .before .before .before .before .put-one .ensures) (c .before .before .put-digits .ensures))
 
 put-digits-requires-2 : tie.Need-put-digits-requires-2
 put-digits-requires-2 c κs = search needs

@@ -7,7 +7,7 @@ use native.Mathlib.Omega.{arith}
 use lib.ListN.{length, getD, drop}
 use borrow.Author.Needs.{needs}
 use denote.Ref.{now}
-use Rattle.listing.specs.Lines.{space, number, numbers}
+use Rattle.listing.specs.Lines.{space, numeral, numbers}
 use Rattle.listing.proofs.Puts.{Left, then, onward, at-end}
 use Rattle.listing.proofs.Digits.{number-short}
 use Rattle.listing.proofs.Each.{each-none, each-more}
@@ -47,9 +47,9 @@ loop-again c =
     let a = c .before .before .before .before .before .before .before .before .before .before .before .before .before .args in
     let l = c .before .before .before .before .before .before .before .before .before .before .loop in
     let n = getD (now (a .ns)) (l .k) 0 in
-    let is = then (l .out) _ _ (l .to) _ _ (space ∷ []) (number n) (c .before .before .before .before .before .before .before .put-one .ensures) (c .before .before .put-number .ensures) in
-    let more = each-more (λ n. space ∷ number n) (now (a .ns)) (l .k) (c .before .before .before .before .before .before .before .before .before .loop-test .taken) in
-    let left = onward (now (a .out)) (a .at) (numbers (now (a .ns))) (l .out) (l .to) (space ∷ number n) (numbers (drop (l .k + 1) (now (a .ns)))) _ _ (rw more at (l .inv .1 .1 .1)) is in
+    let is = then (l .out) _ _ (l .to) _ _ (space ∷ []) (numeral n) (c .before .before .before .before .before .before .before .put-one .ensures) (c .before .before .put-number .ensures) in
+    let more = each-more (λ n. space ∷ numeral n) (now (a .ns)) (l .k) (c .before .before .before .before .before .before .before .before .before .loop-test .taken) in
+    let left = onward (now (a .out)) (a .at) (numbers (now (a .ns))) (l .out) (l .to) (space ∷ numeral n) (numbers (drop (l .k + 1) (now (a .ns)))) _ _ (rw more at (l .inv .1 .1 .1)) is in
     (omega arith, (omega (arith, is .0, l .inv .1 .0, number-short n), (c .before .before .put-number .kept .0 ∙ c .before .before .before .before .before .before .before .put-one .kept .0 ∙ l .inv .1 .1 .0, left)))
 
 same-length : tie.Need-same-length Inv-loop μ-loop
@@ -59,7 +59,7 @@ returns : tie.Need-returns Inv-loop μ-loop
 returns c =
     let a = c .before .before .before .before .args in
     let l = c .before .loop in
-    at-end (now (a .out)) (a .at) (numbers (now (a .ns))) (l .out) (l .to) (rw (each-none (λ n. space ∷ number n) (now (a .ns)) (l .k) (c .loop-test .left)) at (l .inv .1 .1 .1))
+    at-end (now (a .out)) (a .at) (numbers (now (a .ns))) (l .out) (l .to) (rw (each-none (λ n. space ∷ numeral n) (now (a .ns)) (l .k) (c .loop-test .left)) at (l .inv .1 .1 .1))
 
 pub put-numbers-spec : {M : Type 1} → statement M
 put-numbers-spec =
