@@ -7,15 +7,15 @@ ghost use Rattle.hub.specs.Requests.{mayOpen, mayClose, opening, closing
 ghost use Rattle.hub.specs.Code.{coded, tallied};
 use super::jobs::Entry;
 use super::jobs::Out;
+use part::bools::both;
+use part::numbers::ONES;
+use part::numbers::ORIGIN;
 use part::ranges::descriptor_holds;
 use part::ranges::state_holds;
 use part::shapes::Answer;
 use part::shapes::Descriptor;
 use part::shapes::Point;
 use part::shapes::State;
-use part::values::both;
-use part::working::ONES;
-use part::working::ORIGIN;
 
 // The answer of an open and a close that were done.
 const DONE: Answer = Answer {

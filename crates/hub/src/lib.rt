@@ -1,5 +1,5 @@
-// The job table: slots, keys and part numbers.
-pub mod entries;
+// The job table: slots, keys and part numbers. What other crates may use is public, and asks nothing of a caller.
+mod entries;
 pub mod jobs;
-pub mod submit;
+mod submit;
 pub mod table;

@@ -9,9 +9,9 @@ use super::entries::is_open_under;
 use super::entries::refused;
 use super::jobs::Entry;
 use super::jobs::Out;
+use part::bools::both;
 use part::interpret::interpret;
 use part::shapes::Interpreted;
-use part::values::both;
 
 // A part's number against the next one: 17, 1, 18; 0 where it is the one to take now.
 fn judge(next: u32, number: u32) -> u32

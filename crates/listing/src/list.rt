@@ -8,10 +8,10 @@ ghost use Rattle.listing.specs.Listing.{plain as plainNumber, position a
 use super::records::put_records;
 use super::text::MIDDLE;
 use super::text::put_line;
+use part::numbers::wide;
 use part::shapes::Interpreted;
 use part::sheet::fresh;
 use part::sheet::on_sheet;
-use part::values::wide;
 
 fn plain(n: u32) -> u64
     ensures { λ r. ⌜ r ≡ plainNumber n ⌝ }

@@ -1,6 +1,6 @@
 // Records as lines.
 ghost use mathlib.Core.Path.{_≡_};
-ghost use Prim.Native.Nat.{_+_, _*_, _≤_, _<_};
+ghost use Prim.Native.Nat.{_+_, _*_, _≤_};
 ghost use lib.ListN.{length};
 ghost use lib.Seq.{sets};
 ghost use Rattle.listing.specs.Listing.{plainAt, signedAt, textNumbers, ruleNumbers, textLine, ruleLine, recordLine, recordLines};
@@ -8,21 +8,19 @@ use super::text::MIDDLE;
 use super::text::put_characters;
 use super::text::put_fields;
 use super::text::put_line;
-use part::values::wide;
+use part::numbers::wide;
 use part::whole::is_whole;
 use part::whole::little_at;
 
 // Two bytes of a record, as a number to be put.
-fn plain_at(r: &[u8], k: usize) -> u64
-    requires { ⌜ k < 4096 ⌝ }
+fn plain_at(r: &[u8], k: u32) -> u64
     ensures { λ n. ⌜ n ≡ plainAt (now (r .entry)) k ⌝ }
 {
     little_at(r, k) as u64 + MIDDLE
 }
 
 // The same with a sign.
-fn signed_at(r: &[u8], k: usize) -> u64
-    requires { ⌜ k < 4096 ⌝ }
+fn signed_at(r: &[u8], k: u32) -> u64
     ensures { λ n. ⌜ n ≡ signedAt (now (r .entry)) k ⌝ }
 {
     let v = little_at(r, k) as u64;

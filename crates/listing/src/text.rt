@@ -5,7 +5,6 @@ ghost use mathlib.Core.List.{[], _∷_, _++_};
 ghost use lib.ListN.{length};
 ghost use lib.Seq.{sets};
 ghost use Rattle.listing.specs.Lines.{digits, numeral, numbers, hexDigit, hexByte, hexBytes, lineOf, charactersInHex};
-use part::record::store;
 
 // Numbers are kept plus this, so that none is negative.
 pub const MIDDLE: u64 = 65536;
@@ -24,8 +23,12 @@ fn put_word(out: &mut [u8], at: usize, word: &[u8]) -> usize
     requires { ⌜ at + length (now word) ≤ length (now out) ⌝ }
     ensures { λ r. ⌜ (r ≡ at + length (now (word .entry))) × (now (out .exit) ≡ sets (now (out .entry)) at (now (word .entry))) ⌝ }
 {
-    store(out, at, word);
-    at + word.len()
+    let mut k: usize = 0;
+    while k < word.len() {
+        out[at + k] = word[k];
+        k += 1;
+    }
+    at + k
 }
 
 // A number's digits, `most` at most.

@@ -3,6 +3,8 @@ ghost use mathlib.Core.Path.{_≡_};
 ghost use Prim.Native.Nat.{_<_};
 ghost use Rattle.part.specs.Part.{interpreted, areaAfter};
 ghost use Rattle.part.specs.Code.{verdict, stateOf, admittedBy};
+use super::bools::both;
+use super::numbers::wide;
 use super::ranges::descriptor_holds;
 use super::ranges::state_holds;
 use super::record::store;
@@ -13,8 +15,6 @@ use super::shapes::Interpreted;
 use super::shapes::Point;
 use super::shapes::State;
 use super::types::TYPES;
-use super::values::both;
-use super::values::wide;
 
 // The tests before any element: 10, 12, 15, 19.
 fn admit(part: usize, widths: usize, area: usize, d: Descriptor, s: State) -> u32

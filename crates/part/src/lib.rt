@@ -1,20 +1,22 @@
-// Interprets one part of presentation text.
+// Interprets one part of presentation text. What other crates may use is public, and asks nothing of a caller.
+pub mod bools;
 pub mod interpret;
-pub mod little;
-pub mod moves;
-pub mod perform;
-pub mod presenting;
+mod little;
+mod moves;
+pub mod numbers;
+mod perform;
+mod presenting;
 pub mod ranges;
-pub mod reader;
-pub mod record;
-pub mod rules;
-pub mod run;
-pub mod settings;
+mod reader;
+mod record;
+mod rules;
+mod run;
+mod settings;
 pub mod shapes;
 pub mod sheet;
-pub mod show;
-pub mod text;
-pub mod types;
-pub mod values;
+mod show;
+mod text;
+mod types;
+mod values;
 pub mod whole;
-pub mod working;
+mod working;

@@ -6,8 +6,8 @@ ghost use lib.ListN.{length, take, drop};
 ghost use lib.Seq.{sets};
 ghost use Rattle.part.specs.Numbers.{little};
 ghost use Rattle.part.specs.Code.{lowFirst};
-use super::values::wide;
-use super::values::wide_byte;
+use super::numbers::wide;
+use super::numbers::wide_byte;
 
 // Stores a number in two bytes.
 fn put_two(area: &mut [u8], at: usize, v: usize)

@@ -5,14 +5,14 @@ ghost use lib.ListN.{length};
 ghost use Rattle.part.specs.Presenting.{moved};
 ghost use Rattle.part.specs.Code.{verdict, reached};
 ghost use Rattle.part.specs.Working.{absolute, relative, line};
+use super::numbers::LAST;
+use super::numbers::ORIGIN;
 use super::text::Reached;
 use super::values::word_of;
 use super::working::B;
 use super::working::I;
 use super::working::INCREMENT;
-use super::working::LAST;
 use super::working::MARGIN;
-use super::working::ORIGIN;
 
 // A kept number moved forth and back; 28 beyond the range.
 fn moved_by(n: u32, forth: u32, back: u32) -> Reached

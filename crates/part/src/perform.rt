@@ -10,6 +10,8 @@ ghost use Rattle.part.specs.Code.{verdict, lengthsOf, stateOf, stateAfte
 use super::moves::absolute_move;
 use super::moves::begin_line;
 use super::moves::relative_move;
+use super::numbers::ONES;
+use super::numbers::wide;
 use super::rules::draw_rule;
 use super::settings::begin_suppression;
 use super::settings::end_suppression;
@@ -20,13 +22,11 @@ use super::settings::set_font;
 use super::settings::set_number;
 use super::shapes::Descriptor;
 use super::show::show_text;
-use super::values::wide;
 use super::values::word_at;
 use super::working::B;
 use super::working::I;
 use super::working::INCREMENT;
 use super::working::MARGIN;
-use super::working::ONES;
 use super::working::SPACE;
 
 // RPS: a count, then the text that begins again at its end.

@@ -4,9 +4,9 @@ ghost use mathlib.Core.Bool.{_&&_, not};
 ghost use Prim.Native.Nat.{_+_};
 ghost use lib.Dec.{eqb, leb};
 ghost use Rattle.part.specs.Numbers.{origin};
-use super::values::both;
+use super::bools::both;
 
-// As `working::ORIGIN`, for sums.
+// As `numbers::ORIGIN`, for sums.
 const ORIGIN: usize = 32768;
 
 // Whether the open suppression, if any, is the hidden one.

@@ -3,12 +3,12 @@ ghost use mathlib.Core.Path.{_≡_};
 ghost use mathlib.Core.Bool.{_&&_};
 ghost use lib.Dec.{leb};
 ghost use Rattle.part.specs.Ranges.{hold, descriptorFields, stateFields};
+use super::bools::both;
+use super::bools::either;
+use super::numbers::ONES;
 use super::settings::is_colour;
 use super::shapes::Descriptor;
 use super::shapes::State;
-use super::values::both;
-use super::values::either;
-use super::working::ONES;
 
 // Whether a number lies from 1 to 32,767.
 fn is_size(n: u32) -> bool

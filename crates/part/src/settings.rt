@@ -5,9 +5,10 @@ ghost use lib.ListN.{length};
 ghost use Rattle.part.specs.Ranges.{upTo, colours, _∈_};
 ghost use Rattle.part.specs.Code.{verdict};
 ghost use Rattle.part.specs.Working.{setting, fontSetting, adjusting, oriented, beginning, ending};
-use super::values::both;
+use super::bools::both;
+use super::bools::either;
+use super::numbers::ONES;
 use super::values::byte_at;
-use super::values::either;
 use super::values::or_default;
 use super::values::word_at;
 use super::values::word_of;
@@ -15,7 +16,6 @@ use super::working::ADJUSTMENT;
 use super::working::COLOUR;
 use super::working::DIRECTION;
 use super::working::FONT;
-use super::working::ONES;
 use super::working::SUPPRESSION;
 
 // Whether a number is a colour of the descriptor's range.

@@ -1,23 +1,10 @@
 // Parameters: bytes, and numbers of two bytes.
 ghost use mathlib.Core.Path.{_≡_};
-ghost use mathlib.Core.Bool.{_&&_, _||_};
 ghost use Prim.Native.Nat.{_≤_, _<_};
 ghost use lib.ListN.{length};
 ghost use Rattle.part.specs.Numbers.{byte, word};
 ghost use Rattle.part.specs.Presenting.{default};
-
-// Both, or either.
-pub fn both(a: bool, b: bool) -> bool
-    ensures { λ r. ⌜ r ≡ (a && b) ⌝ }
-{
-    if a { b } else { false }
-}
-
-pub fn either(a: bool, b: bool) -> bool
-    ensures { λ r. ⌜ r ≡ (a || b) ⌝ }
-{
-    if a { true } else { b }
-}
+use super::numbers::wide_byte;
 
 // A byte, where a missing one counts as `absent`.
 pub fn byte_at(p: &[u8], at: usize, absent: u8) -> u32
@@ -28,13 +15,6 @@ pub fn byte_at(p: &[u8], at: usize, absent: u8) -> u32
     } else {
         absent as u32
     }
-}
-
-// A byte as a number of 32 bits.
-pub fn wide_byte(x: u8) -> u32
-    ensures { λ r. ⌜ (r ≡ x) × (r < 256) ⌝ }
-{
-    x as u32
 }
 
 // Two bytes, the higher first. One test for both, so that they are read as one.
@@ -62,11 +42,4 @@ pub fn or_default(all: u32, v: u32, other: u32) -> u32
     ensures { λ r. ⌜ r ≡ default all v other ⌝ }
 {
     if v == all { other } else { v }
-}
-
-// The same number, for sums that cannot wrap.
-pub fn wide(n: u32) -> usize
-    ensures { λ r. ⌜ (r ≡ n) × (r < 4294967296) ⌝ }
-{
-    n as usize
 }

@@ -2,17 +2,17 @@
 ghost use mathlib.Core.Path.{_≡_};
 ghost use Prim.Native.Nat.{_<_};
 ghost use Rattle.part.specs.Records.{littleAt, isWhole};
-use super::values::both;
+use super::bools::both;
+use super::bools::either;
+use super::numbers::wide;
 use super::values::byte_at;
-use super::values::either;
-use super::values::wide;
 
 // Two bytes, the lower first; beyond the end they count as 0.
-pub fn little_at(bytes: &[u8], k: usize) -> u32
-    requires { ⌜ k < 65536 ⌝ }
+pub fn little_at(bytes: &[u8], k: u32) -> u32
     ensures { λ r. ⌜ (r ≡ littleAt (now (bytes .entry)) k) × (r < 65536) ⌝ }
 {
-    byte_at(bytes, k, 0) + 256 * byte_at(bytes, k + 1, 0)
+    let at = k as usize;
+    byte_at(bytes, at, 0) + 256 * byte_at(bytes, at + 1, 0)
 }
 
 // Whether some bytes begin with a whole record.

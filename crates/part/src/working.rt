@@ -22,12 +22,3 @@ pub const SUPPRESSION: usize = 9;
 pub const CHAIN: usize = 10;
 
 pub const USED: usize = 11;
-
-// A position is kept as its number plus this.
-pub const ORIGIN: u32 = 32768;
-
-// The greatest kept position, 32,767.
-pub const LAST: usize = 65535;
-
-// All ones in two bytes.
-pub const ONES: u32 = 0xFFFF;

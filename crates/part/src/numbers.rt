@@ -1,0 +1,26 @@
+// Numbers that stand for something, and the same number in more bits. Nothing is asked of a caller.
+ghost use mathlib.Core.Path.{_≡_};
+ghost use Prim.Native.Nat.{_<_};
+
+// A position is kept as its number plus this.
+pub const ORIGIN: u32 = 32768;
+
+// The greatest kept position, 32,767.
+pub const LAST: usize = 65535;
+
+// All ones in two bytes.
+pub const ONES: u32 = 0xFFFF;
+
+// A byte as a number of 32 bits.
+pub fn wide_byte(x: u8) -> u32
+    ensures { λ r. ⌜ (r ≡ x) × (r < 256) ⌝ }
+{
+    x as u32
+}
+
+// The same number, for sums that cannot wrap.
+pub fn wide(n: u32) -> usize
+    ensures { λ r. ⌜ (r ≡ n) × (r < 4294967296) ⌝ }
+{
+    n as usize
+}
