@@ -18,7 +18,7 @@ use Rattle.part.specs.Presenting.{moved}
 use Rattle.part.specs.Text.{cycle}
 use Rattle.part.specs.Code.{verdict, reached, widthIn, stepped, along, sumOf, widthsOf, rowWidths, isSpace, spacesIn, AtLeast, Fixed}
 use Rattle.part.specs.declared.text.Line.{Line}
-use Rattle.part.specs.declared.text.Reached.{Reached}
+use Rattle.part.specs.declared.presenting.Reached.{Reached}
 use Rattle.part.proofs.Checks.{after, regrouped}
 use Rattle.part.proofs.Cycles.{length-cycle, times, round, rounds}
 

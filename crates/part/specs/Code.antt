@@ -26,7 +26,7 @@ use Rattle.part.specs.declared.reader.Read.the-variants.{Run, Sequence, 
 use Rattle.part.specs.declared.record.Head.{Head}
 use Rattle.part.specs.declared.run.Outcome.{Outcome}
 use Rattle.part.specs.declared.text.Line.{Line}
-use Rattle.part.specs.declared.text.Reached.{Reached}
+use Rattle.part.specs.declared.presenting.Reached.{Reached}
 
 -- ---- refusals
 

@@ -7,7 +7,7 @@ ghost use Rattle.part.specs.Code.{verdict, reached};
 ghost use Rattle.part.specs.Working.{absolute, relative, line};
 use super::numbers::LAST;
 use super::numbers::ORIGIN;
-use super::text::Reached;
+use super::presenting::Reached;
 use super::values::word_of;
 use super::working::B;
 use super::working::I;

@@ -1,6 +1,7 @@
-// Numbers that stand for something, and the same number in more bits. Nothing is asked of a caller.
+// Numbers that stand for something, the same number in more bits, the lesser of two. Nothing is asked of a caller.
 ghost use mathlib.Core.Path.{_≡_};
-ghost use Prim.Native.Nat.{_<_};
+ghost use mathlib.Core.Logic.{_⊎_};
+ghost use Prim.Native.Nat.{_≤_, _<_};
 
 // A position is kept as its number plus this.
 pub const ORIGIN: u32 = 32768;
@@ -23,4 +24,11 @@ pub fn wide(n: u32) -> usize
     ensures { λ r. ⌜ (r ≡ n) × (r < 4294967296) ⌝ }
 {
     n as usize
+}
+
+// Of two numbers.
+pub fn lesser(a: usize, b: usize) -> usize
+    ensures { λ r. ⌜ (r ≤ a) × ((r ≤ b) × ((r ≡ a) ⊎ (r ≡ b))) ⌝ }
+{
+    if a < b { a } else { b }
 }

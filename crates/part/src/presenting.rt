@@ -1,4 +1,4 @@
-// What lies on the sheet, and what is hidden.
+// What lies on the sheet, what is hidden, and a place that is reached.
 ghost use mathlib.Core.Path.{_≡_};
 ghost use mathlib.Core.Bool.{_&&_, not};
 ghost use Prim.Native.Nat.{_+_};
@@ -7,7 +7,13 @@ ghost use Rattle.part.specs.Numbers.{origin};
 use super::bools::both;
 
 // As `numbers::ORIGIN`, for sums.
-const ORIGIN: usize = 32768;
+pub const ORIGIN: usize = 32768;
+
+// Where a move or some characters come to stand; or a refusal.
+pub struct Reached {
+    pub fault: u32,
+    pub at: usize,
+}
 
 // Whether the open suppression, if any, is the hidden one.
 pub fn is_hidden(suppression: u32, hidden: u32) -> bool

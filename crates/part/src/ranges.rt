@@ -2,11 +2,10 @@
 ghost use mathlib.Core.Path.{_≡_};
 ghost use mathlib.Core.Bool.{_&&_};
 ghost use lib.Dec.{leb};
-ghost use Rattle.part.specs.Ranges.{hold, descriptorFields, stateFields};
+ghost use Rattle.part.specs.Ranges.{colours, _∈_, hold, descriptorFields, stateFields};
 use super::bools::both;
 use super::bools::either;
 use super::numbers::ONES;
-use super::settings::is_colour;
 use super::shapes::Descriptor;
 use super::shapes::State;
 
@@ -15,6 +14,13 @@ fn is_size(n: u32) -> bool
     ensures { λ r. ⌜ r ≡ (leb 1 n && leb n 32767) ⌝ }
 {
     both(1 <= n, n <= 32767)
+}
+
+// Whether a number is a colour of the descriptor's range.
+pub fn is_colour(v: u32) -> bool
+    ensures { λ r. ⌜ r ≡ (v ∈ colours) ⌝ }
+{
+    either(either(v == 0, v == 0xFF00), v == 0xFF07)
 }
 
 // Whether every number of a descriptor is in its range, from the last to the first.

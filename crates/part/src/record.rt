@@ -1,6 +1,5 @@
 // Records: their first sixteen bytes, and bytes stored one after the other.
 ghost use mathlib.Core.Path.{_≡_};
-ghost use mathlib.Core.Logic.{_⊎_};
 ghost use Prim.Native.Nat.{_+_, _≤_, _<_};
 ghost use lib.ListN.{length, take, drop};
 ghost use lib.Seq.{sets};
@@ -9,6 +8,7 @@ ghost use Rattle.part.specs.Code.{headBytes};
 use super::little::eight_at;
 use super::little::four_of;
 use super::little::put_eight;
+use super::numbers::lesser;
 
 // The eight numbers that either kind of record begins with.
 pub struct Head {
@@ -96,12 +96,6 @@ fn copy_on(area: &mut [u8], from: usize, to: usize, n: usize)
         area[to + k] = area[from + k];
         k += 1;
     }
-}
-
-pub fn lesser(a: usize, b: usize) -> usize
-    ensures { λ r. ⌜ (r ≤ a) × ((r ≤ b) × ((r ≡ a) ⊎ (r ≡ b))) ⌝ }
-{
-    if a < b { a } else { b }
 }
 
 // Stores `count` characters, more than one round of a text that begins again at its end: one round, and then what is there once more, as long as it lasts.

@@ -2,12 +2,13 @@
 ghost use mathlib.Core.Path.{_≡_};
 ghost use Prim.Native.Nat.{_≤_, _<_};
 ghost use lib.ListN.{length};
-ghost use Rattle.part.specs.Ranges.{upTo, colours, _∈_};
+ghost use Rattle.part.specs.Ranges.{upTo, colours};
 ghost use Rattle.part.specs.Code.{verdict};
 ghost use Rattle.part.specs.Working.{setting, fontSetting, adjusting, oriented, beginning, ending};
 use super::bools::both;
 use super::bools::either;
 use super::numbers::ONES;
+use super::ranges::is_colour;
 use super::values::byte_at;
 use super::values::or_default;
 use super::values::word_at;
@@ -17,13 +18,6 @@ use super::working::COLOUR;
 use super::working::DIRECTION;
 use super::working::FONT;
 use super::working::SUPPRESSION;
-
-// Whether a number is a colour of the descriptor's range.
-pub fn is_colour(v: u32) -> bool
-    ensures { λ r. ⌜ r ≡ (v ∈ colours) ⌝ }
-{
-    either(either(v == 0, v == 0xFF00), v == 0xFF07)
-}
 
 // SIM, SBI, SVI: a number up to `most`, or all ones for the other value.
 pub fn set_number(w: &mut [u32], at: usize, p: &[u8], most: u32, other: u32) -> u32

@@ -13,6 +13,7 @@ ghost use Rattle.part.specs.Code.{verdict, reached, stateOf, stateAfter,
 use super::bools::either;
 use super::numbers::ONES;
 use super::numbers::wide;
+use super::presenting::Reached;
 use super::presenting::is_hidden;
 use super::presenting::within;
 use super::record::Head;
@@ -20,7 +21,6 @@ use super::record::draw;
 use super::record::put_head;
 use super::shapes::Descriptor;
 use super::text::Line;
-use super::text::Reached;
 use super::text::present;
 use super::values::or_default;
 use super::working::ADJUSTMENT;

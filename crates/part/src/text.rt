@@ -5,11 +5,10 @@ ghost use Prim.Native.Nat.{_+_, _*_, _≤_, _<_};
 ghost use lib.ListN.{length, getD, drop};
 ghost use Rattle.part.specs.Text.{cycle};
 ghost use Rattle.part.specs.Code.{reached, widthIn, along, rowWidths, isSpace, spacesIn, widthsOf, AtLeast, Fixed};
-use super::record::lesser;
-
-const ORIGIN: usize = 32768;
-
-const LAST: usize = 65535;
+use super::numbers::LAST;
+use super::numbers::lesser;
+use super::presenting::ORIGIN;
+use super::presenting::Reached;
 
 // What does not change within an element: the width of X'40', whether characters are shown, the end of the sheet along I, the adjustment.
 pub struct Line {
@@ -18,12 +17,6 @@ pub struct Line {
     pub limit: usize,
     pub plus: usize,
     pub minus: usize,
-}
-
-// Where I comes to stand; or a refusal.
-pub struct Reached {
-    pub fault: u32,
-    pub at: usize,
 }
 
 // 1 for X'40', else 0.

@@ -1,10 +1,10 @@
--- `part::record::lesser` meets its contract.
+-- `part::numbers::lesser` meets its contract.
 -- Assumes nothing.
 use borrow.Author.Needs.{needs}
 use mathlib.Core.Logic.{inl, inr}
 use mathlib.Core.Path.{refl}
-use Rattle.part.proofs.record.lesser.Statement.{statement}
-use Rattle.part.proofs.record.lesser.Tie as tie
+use Rattle.part.proofs.numbers.lesser.Statement.{statement}
+use Rattle.part.proofs.numbers.lesser.Tie as tie
 
 returns : tie.Need-returns
 returns c = (search needs, (search needs, inl refl))

@@ -1,8 +1,8 @@
--- `part::settings::is_colour` meets its contract.
+-- `part::ranges::is_colour` meets its contract.
 -- Assumes nothing.
 use borrow.Author.Needs.{needs}
-use Rattle.part.proofs.settings.is_colour.Statement.{statement}
-use Rattle.part.proofs.settings.is_colour.Tie as tie
+use Rattle.part.proofs.ranges.is_colour.Statement.{statement}
+use Rattle.part.proofs.ranges.is_colour.Tie as tie
 
 either-requires : tie.Need-either-requires
 either-requires c κs = search needs
