@@ -11,7 +11,7 @@ use lib.Dec.{leb, eqb}
 use lib.Seq.{drop-append-seam}
 use Rattle.part.specs.Numbers.{if_then_else_}
 use Rattle.part.specs.Reading.{cut}
-use Rattle.part.specs.Records.{Item, text, rule, bytesOf, allBytes, littleAt, isWhole, boundariesFrom, boundaries}
+use Rattle.part.specs.Records.{Item, textItem, ruleItem, bytesOf, allBytes, littleAt, isWhole, boundariesFrom, boundaries}
 use Rattle.part.specs.Place.{place}
 use Rattle.part.specs.Part.{elementsBy}
 use Rattle.part.specs.Drawing.{allOnSheet}
@@ -43,16 +43,16 @@ record Begins (x : Item) (behind : List ℕ) : Type 0 where
 
 begins : (x : Item) (behind : List ℕ) → length (bytesOf x) < 65536 → Begins x behind
 unfolding bytesOf
-begins (text t) behind h =
-    let l = length-append (bytesOf (text t)) behind in
-    let n = littleAt (bytesOf (text t) ++ behind) 0 in
-    let is : n ≡ length (bytesOf (text t)) = read-back (16 + length (t .characters)) (omega arith) ∙ (omega arith) in
+begins (textItem t) behind h =
+    let l = length-append (bytesOf (textItem t)) behind in
+    let n = littleAt (bytesOf (textItem t) ++ behind) 0 in
+    let is : n ≡ length (bytesOf (textItem t)) = read-back (16 + length (t .characters)) (omega arith) ∙ (omega arith) in
     let a : leb 16 n ≡ true = le-leb 16 n (omega arith) in
-    let b : leb n (length (bytesOf (text t) ++ behind)) ≡ true = le-leb n (length (bytesOf (text t) ++ behind)) (omega arith) in
+    let b : leb n (length (bytesOf (textItem t) ++ behind)) ≡ true = le-leb n (length (bytesOf (textItem t) ++ behind)) (omega arith) in
     record { length-is = is; whole = rw (a, b); long = omega arith }
-begins (rule r) behind h =
-    let l = length-append (bytesOf (rule r)) behind in
-    let b : leb 16 (length (bytesOf (rule r) ++ behind)) ≡ true = le-leb 16 (length (bytesOf (rule r) ++ behind)) (omega arith) in
+begins (ruleItem r) behind h =
+    let l = length-append (bytesOf (ruleItem r)) behind in
+    let b : leb 16 (length (bytesOf (ruleItem r) ++ behind)) ≡ true = le-leb 16 (length (bytesOf (ruleItem r) ++ behind)) (omega arith) in
     record { length-is = refl; whole = rw b; long = omega arith }
 
 -- the rest of them behind the first

@@ -13,7 +13,7 @@ use borrow.Author.Tests.{leb-true, le-leb, eqb-true}
 use Rattle.part.specs.Numbers.{if_then_else_, origin, ones, byte, word, signed}
 use Rattle.part.specs.Checks.{Checked, fine, fault, require, _>>=_, _>>_}
 use Rattle.part.specs.Ranges.{upTo, only, colours, _to_, _or_, _∈_}
-use Rattle.part.specs.Elements.{ruleWidth, rule}
+use Rattle.part.specs.Elements.{ruleWidth, drawnRule}
 use Rattle.part.specs.States.{point, withAt, withSuppression}
 use Rattle.part.specs.Types.{types}
 use Rattle.part.specs.Presenting.{default, moved}
@@ -147,7 +147,7 @@ module _ (widths : List ℕ) (d : Descriptor) (w p : List ℕ) (twelve : length 
 
   -- ---- rules and text
 
-  arm-rule : (mark : ℕ) → (rule mark p >>= placed widths d (stateOf w)) ≡ ruled d (stateOf w) mark p
+  arm-rule : (mark : ℕ) → (drawnRule mark p >>= placed widths d (stateOf w)) ≡ ruled d (stateOf w) mark p
   unfolding placed place
   arm-rule mark = under (word 0 p 0 ∈ upTo 0x7FFF && ruleWidth (word 0xFF p 2) (byte 0xFF p 4)) 24 _ _ _ (λ t. refl)
 

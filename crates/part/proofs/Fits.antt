@@ -11,7 +11,7 @@ use borrow.Author.Tests.{leb-true, le-leb}
 use Rattle.part.specs.Numbers.{if_then_else_, ones, byte, word}
 use Rattle.part.specs.Checks.{Checked, fine}
 use Rattle.part.specs.Ranges.{Range, upTo, only, colours, _to_, _or_, _∈_}
-use Rattle.part.specs.Elements.{Element, Text, RepeatString, AbsoluteMoveInline, AbsoluteMoveBaseline, RelativeMoveInline, RelativeMoveBaseline, BeginLine, SetInlineMargin, SetBaselineIncrement, SetIntercharacterAdjustment, SetVariableSpace, SetCodedFont, SetTextColor, SetTextOrientation, BeginSuppression, EndSuppression, DrawRule, NoOperation, number, suppression, rule, ruleWidth}
+use Rattle.part.specs.Elements.{Element, Text, RepeatString, AbsoluteMoveInline, AbsoluteMoveBaseline, RelativeMoveInline, RelativeMoveBaseline, BeginLine, SetInlineMargin, SetBaselineIncrement, SetIntercharacterAdjustment, SetVariableSpace, SetCodedFont, SetTextColor, SetTextOrientation, BeginSuppression, EndSuppression, DrawRule, NoOperation, number, suppression, drawnRule, ruleWidth}
 use Rattle.part.specs.Types.{Row, types, rowOf, valuesOf, function, _takes_}
 use Rattle.part.specs.Reading.{Found, between, sequence, element}
 use Rattle.part.proofs.Checks.{Gives, value, refusal, gives-then, gives-where, gives-either, value-of}
@@ -56,7 +56,7 @@ number-fits range e k p = gives-where (word 0 p 0 ∈ range) 24 (fine (e (word 0
 suppression-fits : (e : ℕ → Element) → ((v : ℕ) → (v ∈ 0x01 to 0x7F) ≡ true → Fits (e v)) → Sound (suppression e)
 suppression-fits e k p = gives-where (byte 0 p 0 ∈ 0x01 to 0x7F) 24 (fine (e (byte 0 p 0))) refl (λ t. value (k _ t))
 
-rule-fits : (mark : ℕ) → Sound (rule mark)
+rule-fits : (mark : ℕ) → Sound (drawnRule mark)
 rule-fits mark p =
     let len = word 0 p 0 in
     let width = word 0xFF p 2 in

@@ -19,7 +19,7 @@ use Rattle.part.specs.declared.record.Head.{Head}
 -- the eight numbers that a text's record begins with
 abbrev pub headOf : State → ℕ → Head
 headOf s n = record {
-  length = 16 + n;
+  len = 16 + n;
   kind = 1;
   i = s .at .i + origin;
   b = s .at .b + origin;

@@ -10,7 +10,7 @@ use Rattle.part.specs.Checks.{Checked, fine}
 use Rattle.part.specs.States.{point}
 use Rattle.part.specs.Elements.{Element, Text, RepeatString, AbsoluteMoveInline, AbsoluteMoveBaseline, RelativeMoveInline, RelativeMoveBaseline, BeginLine, SetInlineMargin, SetBaselineIncrement, SetIntercharacterAdjustment, SetVariableSpace, SetCodedFont, SetTextColor, SetTextOrientation, BeginSuppression, EndSuppression, DrawRule, NoOperation}
 use Rattle.part.specs.Reading.{Piece}
-use Rattle.part.specs.Records.{ShownText, Item, text, rule}
+use Rattle.part.specs.Records.{ShownText, Item}
 use Rattle.part.specs.Presenting.{default, moved, onSheet, hides}
 use Rattle.part.specs.Text.{widthOf, plus, minus, character, characters, cycle}
 use Rattle.part.specs.Place.{Effect, along, textItems, placeText, placeRule, place}

@@ -200,7 +200,7 @@ lowFirst (suc n) v = v % 256 ∷ lowFirst n (v / 256)
 
 abbrev pub headBytes : Head → List ℕ
 headBytes h =
-    little (h .length) ++ little (h .kind) ++ little (h .i) ++ little (h .b)
+    little (h .len) ++ little (h .kind) ++ little (h .i) ++ little (h .b)
     ++ little (h .first) ++ little (h .second) ++ little (h .third) ++ little (h .fourth)
 
 -- ---- a run over a part's elements

@@ -3,7 +3,7 @@ use Prim.Native.Nat.{ℕ, _+_, _-_}
 use mathlib.Core.Bool.{Bool, true, _&&_}
 use mathlib.Core.List.{List, [], _∷_}
 use Rattle.part.specs.States.{point, state}
-use Rattle.part.specs.Records.{ShownText, Item, text, rule}
+use Rattle.part.specs.Records.{ShownText, Item, textItem, ruleItem}
 use Rattle.part.specs.Presenting.{onSheet}
 use Rattle.part.specs.Text.{widthOf, plus, minus}
 use Rattle.part.specs.Place.{along}
@@ -23,8 +23,8 @@ module _ (widths : List ℕ) (d : Descriptor) where
 
   -- every character of a text; of a rule its start and its opposite corner
   abbrev pub isOnSheet : Item → Bool
-  isOnSheet (text t) = areOnSheet (drawn t) (t .at .i) (t .characters)
-  isOnSheet (rule r) = onSheet d (r .at) (along (r .mark) (r .length) (r .width)) (along (r .mark) (r .width) (r .length))
+  isOnSheet (textItem t) = areOnSheet (drawn t) (t .at .i) (t .characters)
+  isOnSheet (ruleItem r) = onSheet d (r .at) (along (r .mark) (r .len) (r .width)) (along (r .mark) (r .width) (r .len))
 
   abbrev pub allOnSheet : List Item → Bool
   allOnSheet [] = true

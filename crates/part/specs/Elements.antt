@@ -63,12 +63,12 @@ suppression e p = given (byte 0 p 0 ∈ 0x01 to 0x7F) (e (byte 0 p 0))
 abbrev pub ruleWidth : ℕ → ℕ → Bool
 ruleWidth width fraction = width ∈ upTo 0x00C0 && fraction ∈ only 0x00 || width ∈ only ones && fraction ∈ only 0xFF
 
-abbrev pub rule : ℕ → List ℕ → Checked Element
-rule mark p = given (word 0 p 0 ∈ upTo 0x7FFF && ruleWidth (word 0xFF p 2) (byte 0xFF p 4)) (DrawRule mark (word 0 p 0) (word 0xFF p 2))
+abbrev pub drawnRule : ℕ → List ℕ → Checked Element
+drawnRule mark p = given (word 0 p 0 ∈ upTo 0x7FFF && ruleWidth (word 0xFF p 2) (byte 0xFF p 4)) (DrawRule mark (word 0 p 0) (word 0xFF p 2))
 
 -- RPS: count 0..7FFF, then text; count above 0 with no text is 24
-abbrev pub repeated : List ℕ → Checked Element
-repeated p = given (word 0 p 0 ∈ upTo (if ltb 2 (length p) then 0x7FFF else 0)) (RepeatString (drop 2 p) (word 0 p 0))
+abbrev pub repeatedString : List ℕ → Checked Element
+repeatedString p = given (word 0 p 0 ∈ upTo (if ltb 2 (length p) then 0x7FFF else 0)) (RepeatString (drop 2 p) (word 0 p 0))
 
 -- TRN: text
 abbrev pub transparent : List ℕ → Checked Element

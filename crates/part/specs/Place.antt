@@ -7,7 +7,7 @@ use Rattle.part.specs.Numbers.{if_then_else_, origin, ones, signed}
 use Rattle.part.specs.Checks.{Checked, fine, require, _>>=_, _>>_}
 use Rattle.part.specs.States.{point, withAt, withInline, withBaseline, withMargin, withIncrement, withAdjustment, withFont, withColour, withSpace, withSuppression}
 use Rattle.part.specs.Elements.{Element, Text, RepeatString, AbsoluteMoveInline, AbsoluteMoveBaseline, RelativeMoveInline, RelativeMoveBaseline, BeginLine, SetInlineMargin, SetBaselineIncrement, SetIntercharacterAdjustment, SetVariableSpace, SetCodedFont, SetTextColor, SetTextOrientation, BeginSuppression, EndSuppression, DrawRule, NoOperation}
-use Rattle.part.specs.Records.{Item, text, rule}
+use Rattle.part.specs.Records.{Item, textItem, ruleItem}
 use Rattle.part.specs.Presenting.{default, moved, onSheet, hides}
 use Rattle.part.specs.Text.{characters, cycle}
 use Rattle.part.specs.declared.shapes.Descriptor.{Descriptor}
@@ -26,7 +26,7 @@ becomes s = effect s []
 -- ---- text
 
 abbrev pub shownText : State → List ℕ → Item
-shownText s cs = text record { at = s .at; font = s .font; colour = s .colour; adjustment = s .adjustment; direction = s .direction; space = s .space; characters = cs }
+shownText s cs = textItem record { at = s .at; font = s .font; colour = s .colour; adjustment = s .adjustment; direction = s .direction; space = s .space; characters = cs }
 
 -- one for each free run, TRN or RPS of at least one shown character
 abbrev pub textItems : Bool → State → List ℕ → List Item
@@ -45,7 +45,7 @@ abbrev pub along : ℕ → ℕ → ℕ → ℕ
 along mark len width = if eqb mark 1 then width else len
 
 abbrev pub shownRule : State → ℕ → ℕ → ℕ → Item
-shownRule s mark len width = rule record { at = s .at; mark = mark; colour = s .colour; length = len; width = width }
+shownRule s mark len width = ruleItem record { at = s .at; mark = mark; colour = s .colour; len = len; width = width }
 
 abbrev pub ruleItems : Bool → State → ℕ → ℕ → ℕ → List Item
 ruleItems hidden s mark len width = if hidden then [] else shownRule s mark len width ∷ []

@@ -21,12 +21,12 @@ pub record ShownRule : Type 0 where
   pub at : Point
   pub mark : ℕ
   pub colour : ℕ
-  pub length : ℕ
+  pub len : ℕ
   pub width : ℕ
 
 pub data Item : Type 0 where
-  text : ShownText → Item
-  rule : ShownRule → Item
+  textItem : ShownText → Item
+  ruleItem : ShownRule → Item
 
 -- a position, as a signed number of two bytes
 abbrev pub placeBytes : Point → List ℕ
@@ -38,10 +38,10 @@ adjustmentBytes amount direction = little (if eqb direction 1 then 65536 - amoun
 
 -- Length of the whole record in two bytes, kind in two, I and B in two each, then what the kind says.
 unfoldable pub bytesOf : Item → List ℕ
-bytesOf (text t) =
+bytesOf (textItem t) =
     little (16 + length (t .characters)) ++ little 1 ++ placeBytes (t .at)
     ++ little (t .font) ++ little (t .colour) ++ adjustmentBytes (t .adjustment) (t .direction) ++ little (t .space) ++ t .characters
-bytesOf (rule r) = little 16 ++ little 2 ++ placeBytes (r .at) ++ little (r .mark) ++ little (r .colour) ++ little (r .length) ++ little (r .width)
+bytesOf (ruleItem r) = little 16 ++ little 2 ++ placeBytes (r .at) ++ little (r .mark) ++ little (r .colour) ++ little (r .len) ++ little (r .width)
 
 abbrev pub allBytes : List Item → List ℕ
 allBytes [] = []

@@ -11,7 +11,7 @@ use Rattle.part.specs.States.{point, state}
 use Rattle.part.specs.Ranges.{descriptorFields, stateFields}
 use Rattle.part.specs.Types.{types}
 use Rattle.part.specs.Reading.{sequence, element, cutFrom, cut}
-use Rattle.part.specs.Records.{Item, text, rule, bytesOf}
+use Rattle.part.specs.Records.{Item, textItem, ruleItem, bytesOf}
 use Rattle.part.specs.Presenting.{moved}
 use Rattle.part.specs.Text.{character, characters, cycle}
 use Rattle.part.specs.Place.{Effect, placeText, placeRule, place}
@@ -125,8 +125,8 @@ further =
 -- the characters of some items
 abbrev pub charactersOf : List Item → List ℕ
 charactersOf [] = []
-charactersOf (text t ∷ xs) = t .characters ++ charactersOf xs
-charactersOf (rule r ∷ xs) = charactersOf xs
+charactersOf (textItem t ∷ xs) = t .characters ++ charactersOf xs
+charactersOf (ruleItem r ∷ xs) = charactersOf xs
 
 abbrev pub shownOf : Checked Effect → List ℕ
 shownOf (fine e) = charactersOf (e .items)

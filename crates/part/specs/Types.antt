@@ -6,7 +6,7 @@ use lib.Dec.{eqb}
 use Rattle.part.specs.Numbers.{if_then_else_, ones}
 use Rattle.part.specs.Checks.{Checked, fine, refuse, _>>=_}
 use Rattle.part.specs.Ranges.{upTo, only, colours, everything, _to_, _or_, _∈_}
-use Rattle.part.specs.Elements.{Element, AbsoluteMoveInline, AbsoluteMoveBaseline, RelativeMoveInline, RelativeMoveBaseline, BeginLine, SetInlineMargin, SetBaselineIncrement, SetVariableSpace, SetTextColor, BeginSuppression, EndSuppression, NoOperation, number, adjustment, font, orientation, suppression, rule, transparent, repeated, ignored}
+use Rattle.part.specs.Elements.{Element, AbsoluteMoveInline, AbsoluteMoveBaseline, RelativeMoveInline, RelativeMoveBaseline, BeginLine, SetInlineMargin, SetBaselineIncrement, SetVariableSpace, SetTextColor, BeginSuppression, EndSuppression, NoOperation, number, adjustment, font, orientation, suppression, drawnRule, transparent, repeatedString, ignored}
 use Rattle.part.specs.declared.types.Lengths.{Lengths}
 
 -- The low bit of TYPE chains the next sequence and is otherwise ignored.
@@ -51,10 +51,10 @@ types =
     ∷ row 0xF6 (all 6 6) orientation  -- STO
     ∷ row 0xF2 (all 3 3) (suppression BeginSuppression)  -- BSU
     ∷ row 0xF4 (all 3 3) (suppression EndSuppression)  -- ESU
-    ∷ row 0xE4 (allBut 4 7 5 6) (rule 0)  -- DIR
-    ∷ row 0xE6 (allBut 4 7 5 6) (rule 1)  -- DBR
+    ∷ row 0xE4 (allBut 4 7 5 6) (drawnRule 0)  -- DIR
+    ∷ row 0xE6 (allBut 4 7 5 6) (drawnRule 1)  -- DBR
     ∷ row 0xDA (all 2 255) transparent  -- TRN
-    ∷ row 0xEE (all 4 255) repeated  -- RPS
+    ∷ row 0xEE (all 4 255) repeatedString  -- RPS
     ∷ row 0xF8 (all 2 255) (ignored NoOperation)  -- NOP
     ∷ []
 

@@ -12,7 +12,7 @@ use super::numbers::lesser;
 
 // The eight numbers that either kind of record begins with.
 pub struct Head {
-    pub length: usize,
+    pub len: usize,
     pub kind: usize,
     pub i: usize,
     pub b: usize,
@@ -27,7 +27,7 @@ pub fn put_head(area: &mut [u8], at: usize, h: Head)
     requires { ⌜ at + 16 ≤ length (now area) ⌝ }
     ensures { λ _. ⌜ now (area .exit) ≡ sets (now (area .entry)) at (headBytes h) ⌝ }
 {
-    put_eight(area, at, four_of(h.length, h.kind, h.i, h.b));
+    put_eight(area, at, four_of(h.len, h.kind, h.i, h.b));
     put_eight(area, at + 8, four_of(h.first, h.second, h.third, h.fourth));
 }
 

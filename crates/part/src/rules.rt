@@ -65,7 +65,7 @@ fn record_rule(area: &mut [u8], w: &mut [u32], mark: u32, len: u32, width: u32) 
     let b = wide(w[B]);
     let colour = wide(w[COLOUR]);
     let h = Head {
-        length: 16,
+        len: 16,
         kind: 2,
         i: i + 32768,
         b: b + 32768,

@@ -98,7 +98,7 @@ fn record_text(t: &[u8], count: usize, area: &mut [u8], w: &mut [u32], i: usize)
         return 29;
     }
     let h = Head {
-        length: 16 + count,
+        len: 16 + count,
         kind: 1,
         i: wide(w[I]) + 32768,
         b: wide(w[B]) + 32768,

@@ -34,7 +34,7 @@ returns c =
     let low = c .before .before .before .before .before .before .before .before .four-of in
     let high = c .before .before .before .four-of2 in
     both-known (now (a .area)) _ _ (a .at) (lowFirst 8 (low .result)) (lowFirst 8 (high .result))
-    (little (h .length) ++ little (h .kind) ++ little (h .i) ++ little (h .b))
+    (little (h .len) ++ little (h .kind) ++ little (h .i) ++ little (h .b))
     (little (h .first) ++ little (h .second) ++ little (h .third) ++ little (h .fourth))
     (c .before .before .before .before .before .before .before .put-eight .ensures)
     (c .before .before .put-eight2 .ensures)
