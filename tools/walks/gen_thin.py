@@ -1,16 +1,15 @@
 #!/usr/bin/env python3
 """Writes crates/hub/proofs/table/FN/Proof.antt, the walk of a thin function over the lent table (crates/hub/proofs/Thin.antt has the form of its body), to standard output.
 
-  gen_thin.py FN [--requires] [--sizes "records=65536, widths=1024"] MODULE::CALLEE PARAMS PASSED F [NAME=G ..]
+  gen_thin.py FN [--requires] [--sizes "records=65536, widths=1024"] MODULE::CALLEE PARAMS PASSED REQUEST
 
 FN              the function, in crates/hub/src/table.rt
 MODULE::CALLEE  the covered callee: it takes the entry and then the passed parameters, in order, and answers an `Out`
 PARAMS          the parameters as the source has them, on one line. The first is `table: &mut [Entry]`; one is `slot: u32`. The others may be an integer to u64 or usize,
                 a bool, a struct of crates/part/src/shapes.rt by value, `&[u16]`, `&mut [u8]` (any integer) and `&mut u32` (any integer)
 PASSED          the names of those passed: the last ones, and among them every reference but the table
-F               the request on an entry, a term that is partial in the entry, over the parameters' names; what a reference shows at entry is `name .now`
-NAME=G          for each `&mut` beside the table: what the request makes of it, a term of the same kind
-                F and G use definitions of crates/hub/specs/Requests.antt
+REQUEST         the request whose step the contract cites (crates/hub/specs/Requests.antt), a term over the parameters' names; what a reference shows at entry is `name .now`
+                The callee says that the `Out` is `onEntry` of it and, under ×, what each `&mut` beside the table holds then, as `onRecords` has it
 --sizes         the further lengths that the body tests, in its order, after the table's
 --requires      the callee has `requires { ⌜ slot < 16 ⌝ }`, and with --sizes `requires { ⌜ (slot < 16) × ((length (records .now) ≡ 65536) × (length (widths .now) ≡ 1024)) ⌝ }`
 """
@@ -23,9 +22,12 @@ while args and args[0].startswith('--'):
     if o == '--requires': needs = True
     elif o == '--sizes': sizes = [tuple(x.strip() for x in p.split('=')) for p in args.pop(0).split(',')]
     else: sys.exit(__doc__)
-if len(args) < 4: sys.exit(__doc__)
-callee, params, passed, f = args[:4]
-gs = dict(a.split('=', 1) for a in args[4:])
+if len(args) != 4: sys.exit(__doc__)
+callee, params, passed, request = args
+
+# what a step is on beside the table: the widths, and the other fields of `Requests.Hub` in their order. What a function isn't lent may be anything
+HUB = {'records': 'List ℕ'}
+GIVEN = {'widths': 'List ℕ', **HUB}
 
 # ---- the parameters. A parameter's variable is x-NAME, so that it is no name of the proof
 class P:
@@ -46,12 +48,10 @@ assert all(p in on for p in rest if p.kind in ('slice', 'one')), 'every referenc
 assert by['slot'].ty == 'u32'
 sizes = [(by[n], w) for n, w in sizes]
 muts = [p for p in rest if p.mut]
-assert set(gs) == {p.name for p in muts}, 'NAME=G for each `&mut` beside the table'
+assert all(p.name in HUB for p in muts), 'each `&mut` beside the table is a field of `Hub`'
 assert table.mut, 'the table is `&mut [Entry]`'
-used = sorted(set(re.findall(r"[a-zA-Z]\w*", f + ' ' + ' '.join(gs.values()))) - set(by) - {'now', 'length'})
 def ren(t): return re.sub(r"(?<![\w.·-])(%s)\b" % '|'.join(by), r'x-\1', t)
-f = ren(f)
-for p in muts: p.g = ren(gs[p.name])
+request = ren(request)
 refs = [p for p in rest if p.kind in ('slice', 'one')]
 for j, p in enumerate(refs): p.lft = j + 1
 structs = sorted({p.el for p in rest if p.kind == 'struct'})
@@ -132,11 +132,11 @@ use denote.Triple.Clauses.{lasts}
 use denote.Triple.Table.{entered, cited}
 use denote.Triple.Walked.{says}''' % (', '.join(sorted({W[i] for i in ints})), ', '.join(ints)))
 for t in [T, 'Answer', 'Out'] + structs: w('use %s.{%s}' % (declared(t), t))
-w('use %s.Entries.{fresh}\nuse %s.Requests.{%s}' % (S, S, ', '.join(['refusal', 'answerOf', 'tableOf'] + (['elseOf'] if muts else []) + used)))
+w('use %s.Entries.{fresh}\nuse %s.Requests.{%s}' % (S, S, ', '.join(['Request', request.split()[0], 'hub', 'step'])))
 for t, a in [(T, 'E'), ('Answer', 'R'), ('Out', 'O')] + [(t, t) for t in structs]: w('use %s as %s\nuse %s.Laws as %s′' % (proved(t), a, proved(t), a))
 w('use %s.Left.{Post, ends, meets, gives-up, gives-up-one, trues, silent}' % Pk)
 w('use %s.Steps.{free-at}' % Pk)
-w('use %s.Thin.{Size, sized, sized-right, within-table, in-slots, answer-val, Is-answer, way-is, tests-request, reads-record, stores-record, calls-record, %s, away, stays, reached}' % (Pk, 'with-record-given' if needs else 'with-record'))
+w('use %s.Thin.{Size, sized, sized-right, within-table, in-slots, answer-val, Is-answer, way-is, IsReply, refused-step, taken-step, tests-request, reads-record, stores-record, calls-record, %s}' % (Pk, 'with-record-given' if needs else 'with-record'))
 w('use {P}.{m}.{c} as callee\nuse {P}.{m}.{c}.Symbol as callee-def\nuse {P}.{m}.{c}.Symbol.{{name as #callee}}\nuse {P}.{m}.{c}.Met as callee-thm\nuse {P}.table.{f}.Key.{{name as #self}}\nuse {P}.table.{f} as self\nuse {P}.table.{f}.Statement as stated\nuse {P}.table.{f}.Code as code'.format(P=Pk, m=module, c=callee, f=fn))
 w('''
 -- the contract that the proof cites
@@ -172,39 +172,42 @@ w('''  abbrev s : Val
   abbrev tk : SProp 𝓤
   tk = alive 𝓤 H A callee.signature κs qs
 
-  -- the lengths that are tested, and whether all are right
+  -- the lengths that are tested
   abbrev others : List Size
   others = %s[]
 
   abbrev gs : List Size
   gs = record { k = 1; len = length ys; want = 16 } ∷ others
 
-  abbrev ok : Bool
-  ok = sized true gs
-
-  -- the request on a record%s
-  abbrev f : %s → %s
-  f = %s
+  abbrev request : Request
+  request = %s
 ''' % (T, prod([denot(p) for p in rest]), tup([p.v for p in rest]), prod(['List Val'] * len(rest)), tup([vals(p) for p in rest]),
        prod([denot(p) for p in on]), tup([p.v for p in on]), prod(['List Val'] * len(on)), tup([vals(p) for p in on]), ''.join(row(p) + ' ∷ ' for p in on),
        ''.join('record { k = %d; len = length %s; want = %s } ∷ ' % x for x in [(p.k, '(%s .now)' % p.v, n) for p, n in sizes]),
-       ', and what it makes of what else is lent' if muts else '', T, 'Out', f))
-for p in muts: w('  abbrev g-%s : %s → %s\n  g-%s = %s\n' % (p.name, T, last(p), p.name, p.g))
-def us(p): return 'us ' + path(on.index(p))
-claims = ['(r ≡ answerOf ok f ys x-slot)', '(zs ≡ tableOf ok f ys x-slot)']
-claims += ['(%s ≡ elseOf ok g-%s (%s .now) ys x-slot)' % (us(p), p.name, p.v) for p in muts]
+       request))
+# the step that the contract cites: what it is on, and what it leaves, of which `us` has what was passed on
+def before(n): return '(%s .now)' % by[n].v if n in by else 'x-' + n
+def after(n, us): return '(%s %s)' % (us, path(on.index(by[n]))) if n in by and by[n].mut else before(n)
+unlent = [n for n in GIVEN if n not in by]
+forall = ' '.join('(x-%s : %s)' % (n, GIVEN[n]) for n in unlent) + ' → ' if unlent else ''
+any_ = 'λ %s. ' % ' '.join('x-' + n for n in unlent) if unlent else ''
+stepped = '%s (hub ys %s) request' % (before('widths'), ' '.join(map(before, HUB)))
 lastof = 'lasts callee.ended κs (getD ys x-slot fresh, on) (tt, us)'
 bound = '(((κ, κs), (q, qs), tt, a, vals), tt)'
 has = '‵ (fobs γ (codedHoleys E.the-row .code (heres E.the-row zs))) ∷ ‵ (flft κ q) ∷ raw tk ∷ ‵ (%s) ∷ []' % lastof
 w('''  abbrev End : Val → SProp 𝓤
   End = Post 𝓤 H A W self.ended (self.clauses 𝓤 H A mem run) %s
 
-  exits : (r : Answer) %s(us : Ws) → %s → Is-answer r → %sent 𝓤 (⋆ 𝓤 H A (%s)) (End (answer-val r))
-  exits r %sus said is%s =
-      qed W (%s) ∵ suffices ! _ (ends 𝓤 H A W self.ended (self.clauses 𝓤 H A mem run) %s (answer-val r) r (%s, %s)) $ says ! said $
+  -- the contract's fact: what is answered and left is what the step gives
+  abbrev Said : Answer → List %s → Ws → Type 0
+  Said r zs us = %sIsReply (step %s) r (hub zs %s)
+
+  exits : (r : Answer) (zs : List %s) (us : Ws) → Said r zs us → Is-answer r → length zs ≡ length ys → ent 𝓤 (⋆ 𝓤 H A (%s)) (End (answer-val r))
+  exits r zs us said is same-length =
+      qed W (%s) ∵ suffices ! _ (ends 𝓤 H A W self.ended (self.clauses 𝓤 H A mem run) %s (answer-val r) r (zs, %s)) $ says ! said $
       %s%s$ fjoin ! $ frame ! $
       owned ! R.the-row (Is R.the-row) (LL.makes R.the-type R′.the-plain 𝓤 H A) r _ is $ done !
-''' % (bound, '(zs : List %s) ' % T, nest(claims, ' × '), 'length zs ≡ length ys → ', has, 'zs ', ' same-length', has, bound, 'zs', '(tt, ' * len(off) + 'us' + ')' * len(off),
+''' % (bound, T, forall, stepped, ' '.join(after(n, 'us') for n in HUB), T, has, has, bound, '(tt, ' * len(off) + 'us' + ')' * len(off),
        'move ! (1 ∷ 2 ∷ []) $ join ! $ frame ! $ gives-up ! E.the-row κ zs (length ys) same-length $ move ! (1 ∷ []) $ ',
        'fsplit ! $ drop ! $ ' + 'nothing ! $ fjoin ! $ ' * len(off) + 'move ! (1 ∷ 0 ∷ []) '))
 def kept(qs): # from what is passed on to its last values as they were
@@ -249,9 +252,7 @@ line('tests-request 𝓤 H A W C Λ _ %d %d %s %s %s refl refl refl End _ gs %s 
 Y = copy.deepcopy(X)
 for x in Y.frees(set(range(np, N))): line(x)
 line('move ! (%d ∷ []) $ use1 W (‵ (lasts callee.ended κs (e, on) (tt, %s))) kept $ keep ! (1 ∷ 3 ∷ 4 ∷ 0 ∷ []) $' % (Y.at('Rest'), us0))
-no = ['away ok x-slot ys (λ e′. f e′ .answer) way', 'stays ok x-slot ys (λ e′. set ys x-slot (f e′ .entry)) ys way']
-no += ['stays ok x-slot ys g-%s (%s .now) way' % (p.name, p.v) for p in muts]
-line('by ! (exits r ys %s (%s) (way-is way) refl)) (λ both.' % (us0, nest(no, ', ')))
+line('by ! (exits r ys %s (%srefused-step %s way) (way-is way) refl)) (λ both.' % (us0, any_, stepped))
 # the record is read
 line(X.move(*tail, 1, ks, ka, kn, kp, ke))
 inside = 'within-table 1 ys others x-slot both'
@@ -266,10 +267,10 @@ for p in muts:
 # the call
 asked = ['x-slot < 16'] + ['(length (%s .now) ≡ %s)' % (p.v, n) for p, n in sizes]
 if sizes: asked[0] = '(x-slot < 16)'
-met = ['in-slots ok x-slot ys both'] + ['sized-right true gs (both .0) .1 %s' % path(j + 1) for j in range(len(sizes))]
+met = ['in-slots (sized true gs) x-slot ys both'] + ['sized-right true gs (both .0) .1 %s' % path(j + 1) for j in range(len(sizes))]
 line('%s use2 W (raw (Callee 𝓤 H A mem run .pre to)) (%s) $' % (X.move('tk', 'Rest'), 'with-record-given 𝓤 H A W e is tk Rest (%s) (%s)' % (nest(asked, ' × '), nest(met, ', ')) if needs else 'with-record 𝓤 H A W e is tk Rest'))
 X.swap(['tk', 'Rest'], ['pre'])
-line('calls-record fm (Callee 𝓤 H A mem run) known to (Unit {0} × Ws) tk (lasts callee.ended κs (e, on)) (λ d us. %s) (λ w. id⊢ 𝓤 _)' % nest(['(d ≡ f e)'] + ['(us .1 %s ≡ g-%s e)' % (path(on.index(p)), p.name) for p in muts], ' × '))
+line('calls-record fm (Callee 𝓤 H A mem run) known to (Unit {0} × Ws) tk (lasts callee.ended κs (e, on)) _ (λ w. id⊢ 𝓤 _)')
 ops = [ke] + [p.tmp[-1] if p.mut else p.k for p in on]
 line('(' + ''.join('and-then ! (%s) (' % X.look(i) for i in ops) + 'no-more !' + ')' * len(ops) + ') (λ w d us said isr tells.')
 X.swap(['pre'], ['tk', 'last'])
@@ -279,9 +280,9 @@ line('land ! (from ! (stop !)) (init ! %d refl (LL.lawful O.the-type O′.the-la
 line(X.move(*tail, 1, ka, kn, 0, kq, ko))
 line('stores-record %s %d %d refl refl refl d w isr (λ is-answer.' % (lead, kq, ko))
 for x in X.frees({kb, kp}): line(x)
-yes = ['ap (λ (d′ : Out). d′ .answer) (%s) ∙ reached ok x-slot ys (λ e′. f e′ .answer) (refusal 11) (refusal 10) both' % said[0], 'ap (λ (d′ : Out). set ys x-slot (d′ .entry)) (%s) ∙ reached ok x-slot ys (λ e′. set ys x-slot (f e′ .entry)) ys ys both' % said[0]]
-yes += ['%s ∙ reached ok x-slot ys g-%s (%s .now) (%s .now) both' % (said[j + 1], p.name, p.v, p.v) for j, p in enumerate(muts)]
-line('keep ! (%s) $ by ! (exits (d .answer) (set ys x-slot (d .entry)) (us .1) (%s) is-answer (length-set ys x-slot (d .entry))' % (' ∷ '.join(str(X.at(x)) for x in ('obs', 'lft', 'tk', 'last')) + ' ∷ []', nest(yes, ', ')))
+def told(n): return said[1 + muts.index(by[n])] if n in by and by[n].mut else 'refl'
+left = [after(n, 'us .1') for n in HUB] + ['(%s)' % x if ' ' in x else x for x in [said[0], *map(told, HUB)]]
+line('keep ! (%s) $ by ! (exits (d .answer) (set ys x-slot (d .entry)) (us .1) (%staken-step %s both d %s) is-answer (length-set ys x-slot (d .entry))' % (' ∷ '.join(str(X.at(x)) for x in ('obs', 'lft', 'tk', 'last')) + ' ∷ []', any_, stepped, ' '.join(left)))
 out[-1] += ')' * sum(x.count('(') - x.count(')') for x in out[begin:])
 w(spec(fn, module, callee, ['slice-vals'] + [spells(p) for p in rest], ['mut-slice-tells (named 0) (κs .0) E.the-row'] + [tells(p) for p in rest],
     '(κs .0) (κs .1) (qs .0) (qs .1) (a .0 .ptr .0) (a .0 .ptr .1) (a .0 .name) (a .0 .now) %s\n    (are .0 .0 .1) %s (𝓣 .C) (𝓣 .Λ) (fmOf 𝓤 H (W .laws) 𝓣)' % (

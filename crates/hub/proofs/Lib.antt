@@ -12,7 +12,6 @@ pub mod Rising
 pub mod Repeating
 pub mod Telling
 pub mod Answering
-pub mod Contracts
 pub mod Coding
 pub mod Cases
 pub mod Left

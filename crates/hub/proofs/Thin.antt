@@ -11,7 +11,7 @@
 --     tests-request (tests-sizes, the lengths only)        the walk of the tests: a premise for the refusals, and one for what follows
 --     reads-record, stores-record      the walk of the load, to the record in its local, and of the store, from the call's result in its local to where the locals are freed.
 --     with-record, with-record-given   what a callee asks that takes the record, and one that asks a fact besides.        calls-record, calls-with      the call of one that answers an `Out`, and of any
---     away, stays, reached             the contract (`specs/Requests.antt`'s `atSlot`): of the answer and of what stays as it was where the request is refused (`Way`), and where it is not (`Both`)
+--     refused-step, taken-step         the contract: what is answered and left is what the step gives, where the request is refused (`Way`), and where it is not (`Both`)
 -- The locals' places in the environment are premises of the form `spotOf E k ≡ (τ, l, 0)`, each a `refl`.
 -- Assumes nothing.
 use mathlib.Core.Path.{_≡_, refl, _∙_, sym, ap, subst}
@@ -50,7 +50,7 @@ use Rattle.hub.specs.declared.jobs.Entry.{Entry}
 use Rattle.part.specs.declared.shapes.Answer.{Answer}
 use Rattle.hub.specs.declared.jobs.Out.{Out}
 use Rattle.hub.specs.Entries.{fresh}
-use Rattle.hub.specs.Requests.{refusal, atSlot}
+use Rattle.hub.specs.Requests.{refusal, atSlot, Hub, hub, Request, slotOf, Reply, isLent, onEntry, onRecords, step}
 use Rattle.hub.proofs.Cases.{hit, miss}
 use Rattle.hub.proofs.Steps.{guards, at, result, number, constant}
 use Rattle.hub.proofs.jobs.Entry as E
@@ -81,16 +81,53 @@ module _ (ok : Bool) (i : ℕ) (ys : List Entry) where
   pub in-slots : Both ok i → i < 16
   in-slots b = let far′ : 15 < i → ⊥ = λ g. T-not (ltb 15 i) (b .1) (lt→ltb 15 i g) in omega (arith, far′)
 
-  pub away : (g : Entry → Answer) {r : Answer} → Way ok i r → r ≡ atSlot ok g (refusal 11) (refusal 10) ys i
+  away : (g : Entry → Answer) {r : Answer} → Way ok i r → r ≡ atSlot ok g (refusal 11) (refusal 10) ys i
   away g (bad-size z) = miss ok _ _ z
   away g (bad-slot z h) = miss (ltb i 16) _ _ (far h) ∙ hit ok _ _ z
 
-  pub stays : {X : Type 0} (g : Entry → X) (x : X) {r : Answer} → Way ok i r → x ≡ atSlot ok g x x ys i
+  stays : {X : Type 0} (g : Entry → X) (x : X) {r : Answer} → Way ok i r → x ≡ atSlot ok g x x ys i
   stays g x (bad-size z) = miss ok _ _ z
   stays g x (bad-slot z h) = miss (ltb i 16) _ _ (far h) ∙ hit ok _ _ z
 
-  pub reached : {X : Type 0} (g : Entry → X) (x y : X) → Both ok i → g (getD ys i fresh) ≡ atSlot ok g x y ys i
+  reached : {X : Type 0} (g : Entry → X) (x y : X) → Both ok i → g (getD ys i fresh) ≡ atSlot ok g x y ys i
   reached g x y b = hit (ltb i 16) _ _ (lt→ltb i 16 (in-slots b)) ∙ hit ok _ _ (b .0)
+
+-- an answer and what is left are a step's
+abbrev pub IsReply : Reply → Answer → Hub → Type 0
+IsReply s a h = (a ≡ s .answer) × (h .table ≡ s .after .table) × (h .records ≡ s .after .records)
+
+module _ (widths : List ℕ) (h : Hub) (r : Request) where
+  abbrev lent : Bool
+  lent = isLent widths h r
+
+  abbrev slot : ℕ
+  slot = slotOf r
+
+  abbrev table : List Entry
+  table = h .table
+
+  abbrev on : Entry → Out
+  on = onEntry widths h r
+
+  abbrev put : Out → List Entry
+  put d = set table slot (d .entry)
+
+  pub refused-step : {a : Answer} → Way lent slot a → IsReply (step widths h r) a h
+  unfolding step
+  refused-step way = (
+    away lent slot table (λ e. on e .answer) way,
+    stays lent slot table (λ e. put (on e)) table way,
+    stays lent slot table (onRecords widths h r) (h .records) way,
+  )
+
+  -- where the callee answers d, and leaves these record bytes
+  pub taken-step : Both lent slot → (d : Out) (bytes : List ℕ) → d ≡ on (getD table slot fresh) → bytes ≡ onRecords widths h r (getD table slot fresh) → IsReply (step widths h r) (d .answer) (hub (put d) bytes)
+  unfolding step
+  taken-step b d bytes made stored = (
+    ap (λ (o : Out). o .answer) made ∙ reached lent slot table (λ e. on e .answer) (refusal 11) (refusal 10) b,
+    ap put made ∙ reached lent slot table (λ e. put (on e)) table table b,
+    stored ∙ reached lent slot table (onRecords widths h r) (h .records) (h .records) b,
+  )
 
 -- ---- an answer's machine value, and that a refusal is one
 abbrev pub answer-val : Answer → Val

@@ -1,6 +1,10 @@
 // The requests over a lent table of entries: each tests what is lent, then the slot, and changes one entry.
+// Each contract says that the function is its request's step: r is the step's answer, and what is lent is left as the step leaves it.
+// Open and close are lent the table only: theirs hold for any widths and record bytes, and say that the step leaves those bytes alone.
 ghost use mathlib.Core.Path.{_≡_};
-ghost use Rattle.hub.specs.Requests.{opening, closing, submitting, storing, areaOf, isTable, isStore, answerOf, tableOf, elseOf, countOpen};
+ghost use mathlib.Core.List.{List};
+ghost use Prim.Native.Nat.{ℕ};
+ghost use Rattle.hub.specs.Requests.{hub, Open, Submit, Close, step, countOpen};
 use super::entries::close_entry;
 use super::entries::open_entry;
 use super::entries::tally;
@@ -26,8 +30,9 @@ const NO_SLOT: Answer = Answer {
 // Opens a job under a key, with a descriptor.
 #[no_mangle]
 pub extern "C" fn halviruso_open(table: &mut [Entry], slot: u32, key: u32, d: Descriptor) -> Answer
-    ensures { λ r. ⌜ (r ≡ answerOf (isTable (now (table .entry))) (opening key d) (now (table .entry)) slot)
-        × (now (table .exit) ≡ tableOf (isTable (now (table .entry))) (opening key d) (now (table .entry)) slot) ⌝ }
+    ensures { λ r. ⌜ ((widths records : List ℕ) →
+        let s = step widths (hub (now (table .entry)) records) (Open slot key d) in
+        (r ≡ s .answer) × (now (table .exit) ≡ s .after .table) × (records ≡ s .after .records)) ⌝ }
 {
     if table.len() != 16 {
         return WRONG_LENGTH;
@@ -52,9 +57,9 @@ pub extern "C" fn halviruso_submit(
     number: u32,
     part: &[u8],
 ) -> Answer
-    ensures { λ r. ⌜ (r ≡ answerOf (isStore (now (table .entry)) (now (records .entry)) (now (widths .entry))) (submitting (now (widths .entry)) key number (now (part .entry)) (areaOf (now (records .entry)) slot)) (now (table .entry)) slot)
-        × ((now (table .exit) ≡ tableOf (isStore (now (table .entry)) (now (records .entry)) (now (widths .entry))) (submitting (now (widths .entry)) key number (now (part .entry)) (areaOf (now (records .entry)) slot)) (now (table .entry)) slot)
-        × (now (records .exit) ≡ elseOf (isStore (now (table .entry)) (now (records .entry)) (now (widths .entry))) (storing (now (widths .entry)) (now (records .entry)) slot key number (now (part .entry))) (now (records .entry)) (now (table .entry)) slot)) ⌝ }
+    ensures { λ r. ⌜ (
+        let s = step (now (widths .entry)) (hub (now (table .entry)) (now (records .entry))) (Submit slot key number (now (part .entry))) in
+        (r ≡ s .answer) × (now (table .exit) ≡ s .after .table) × (now (records .exit) ≡ s .after .records)) ⌝ }
 {
     if table.len() != 16 {
         return WRONG_LENGTH;
@@ -77,8 +82,9 @@ pub extern "C" fn halviruso_submit(
 // Closes the job of this key.
 #[no_mangle]
 pub extern "C" fn halviruso_close(table: &mut [Entry], slot: u32, key: u32) -> Answer
-    ensures { λ r. ⌜ (r ≡ answerOf (isTable (now (table .entry))) (closing key) (now (table .entry)) slot)
-        × (now (table .exit) ≡ tableOf (isTable (now (table .entry))) (closing key) (now (table .entry)) slot) ⌝ }
+    ensures { λ r. ⌜ ((widths records : List ℕ) →
+        let s = step widths (hub (now (table .entry)) records) (Close slot key) in
+        (r ≡ s .answer) × (now (table .exit) ≡ s .after .table) × (records ≡ s .after .records)) ⌝ }
 {
     if table.len() != 16 {
         return WRONG_LENGTH;

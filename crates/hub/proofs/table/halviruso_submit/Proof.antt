@@ -1,8 +1,8 @@
 -- `hub::table::halviruso_submit` meets its contract: a walk of its MIR, with the laws of `Thin`. Written by gen_thin.py.
 -- Assumes nothing.
-use mathlib.Core.Path.{_≡_, refl, ap, _∙_}
+use mathlib.Core.Path.{_≡_, refl}
 use Prim.Native.Nat.{ℕ, _<_, _^_}
-use mathlib.Core.Bool.{Bool, true}
+use mathlib.Core.Bool.{true}
 use mathlib.Core.List.{[], _∷_, List}
 use lib.Dec.{lit<}
 use lib.ListN.{length, set, getD, length-set}
@@ -39,9 +39,8 @@ use denote.Triple.Table.{entered, cited}
 use denote.Triple.Walked.{says}
 use Rattle.hub.specs.declared.jobs.Entry.{Entry}
 use Rattle.part.specs.declared.shapes.Answer.{Answer}
-use Rattle.hub.specs.declared.jobs.Out.{Out}
 use Rattle.hub.specs.Entries.{fresh}
-use Rattle.hub.specs.Requests.{refusal, answerOf, tableOf, elseOf, areaOf, storing, submitting}
+use Rattle.hub.specs.Requests.{Request, Submit, hub, step}
 use Rattle.hub.proofs.jobs.Entry as E
 use Rattle.hub.proofs.jobs.Entry.Laws as E′
 use Rattle.part.proofs.shapes.Answer as R
@@ -50,7 +49,7 @@ use Rattle.hub.proofs.jobs.Out as O
 use Rattle.hub.proofs.jobs.Out.Laws as O′
 use Rattle.hub.proofs.Left.{Post, ends, meets, gives-up, trues, silent}
 use Rattle.hub.proofs.Steps.{free-at}
-use Rattle.hub.proofs.Thin.{Size, sized, sized-right, within-table, in-slots, answer-val, Is-answer, way-is, tests-request, reads-record, stores-record, calls-record, with-record-given, away, stays, reached}
+use Rattle.hub.proofs.Thin.{Size, sized, sized-right, within-table, in-slots, answer-val, Is-answer, way-is, IsReply, refused-step, taken-step, tests-request, reads-record, stores-record, calls-record, with-record-given}
 use Rattle.hub.proofs.submit.submit_slot as callee
 use Rattle.hub.proofs.submit.submit_slot.Symbol as callee-def
 use Rattle.hub.proofs.submit.submit_slot.Symbol.{name as #callee}
@@ -92,27 +91,24 @@ module _ {M : Type 1} (𝓤 : URA M) (H : Heap 𝓤) (A : Atoms 𝓤) (W : Given
   abbrev tk : SProp 𝓤
   tk = alive 𝓤 H A callee.signature κs qs
 
-  -- the lengths that are tested, and whether all are right
+  -- the lengths that are tested
   abbrev others : List Size
   others = record { k = 2; len = length (x-records .now); want = 65536 } ∷ record { k = 3; len = length (x-widths .now); want = 1024 } ∷ []
 
   abbrev gs : List Size
   gs = record { k = 1; len = length ys; want = 16 } ∷ others
 
-  abbrev ok : Bool
-  ok = sized true gs
-
-  -- the request on a record, and what it makes of what else is lent
-  abbrev f : Entry → Out
-  f = submitting (x-widths .now) x-key x-number (x-part .now) (areaOf (x-records .now) x-slot)
-
-  abbrev g-records : Entry → List ℕ
-  g-records = storing (x-widths .now) (x-records .now) x-slot x-key x-number (x-part .now)
+  abbrev request : Request
+  request = Submit x-slot x-key x-number (x-part .now)
 
   abbrev End : Val → SProp 𝓤
   End = Post 𝓤 H A W self.ended (self.clauses 𝓤 H A mem run) (((κ, κs), (q, qs), tt, a, vals), tt)
 
-  exits : (r : Answer) (zs : List Entry) (us : Ws) → (r ≡ answerOf ok f ys x-slot) × ((zs ≡ tableOf ok f ys x-slot) × ((us .0 ≡ elseOf ok g-records (x-records .now) ys x-slot))) → Is-answer r → length zs ≡ length ys → ent 𝓤 (⋆ 𝓤 H A (‵ (fobs γ (codedHoleys E.the-row .code (heres E.the-row zs))) ∷ ‵ (flft κ q) ∷ raw tk ∷ ‵ (lasts callee.ended κs (getD ys x-slot fresh, on) (tt, us)) ∷ [])) (End (answer-val r))
+  -- the contract's fact: what is answered and left is what the step gives
+  abbrev Said : Answer → List Entry → Ws → Type 0
+  Said r zs us = IsReply (step (x-widths .now) (hub ys (x-records .now)) request) r (hub zs (us .0))
+
+  exits : (r : Answer) (zs : List Entry) (us : Ws) → Said r zs us → Is-answer r → length zs ≡ length ys → ent 𝓤 (⋆ 𝓤 H A (‵ (fobs γ (codedHoleys E.the-row .code (heres E.the-row zs))) ∷ ‵ (flft κ q) ∷ raw tk ∷ ‵ (lasts callee.ended κs (getD ys x-slot fresh, on) (tt, us)) ∷ [])) (End (answer-val r))
   exits r zs us said is same-length =
       qed W (‵ (fobs γ (codedHoleys E.the-row .code (heres E.the-row zs))) ∷ ‵ (flft κ q) ∷ raw tk ∷ ‵ (lasts callee.ended κs (getD ys x-slot fresh, on) (tt, us)) ∷ []) ∵ suffices ! _ (ends 𝓤 H A W self.ended (self.clauses 𝓤 H A mem run) (((κ, κs), (q, qs), tt, a, vals), tt) (answer-val r) r (zs, us)) $ says ! said $
       move ! (1 ∷ 2 ∷ []) $ join ! $ frame ! $ gives-up ! E.the-row κ zs (length ys) same-length $ move ! (1 ∷ []) $ fsplit ! $ drop ! $ move ! (1 ∷ 0 ∷ []) $ fjoin ! $ frame ! $
@@ -142,20 +138,20 @@ module _ {M : Type 1} (𝓤 : URA M) (H : Heap 𝓤) (A : Atoms 𝓤) (W : Given
         move ! (2 ∷ 33 ∷ 31 ∷ 32 ∷ 29 ∷ 30 ∷ 27 ∷ 28 ∷ 25 ∷ 26 ∷ 23 ∷ 24 ∷ 21 ∷ 22 ∷ 19 ∷ 20 ∷ 17 ∷ 18 ∷ 15 ∷ 16 ∷ 0 ∷ 14 ∷ 1 ∷ 13 ∷ 11 ∷ 12 ∷ 9 ∷ 10 ∷ 7 ∷ 8 ∷ 5 ∷ 6 ∷ 3 ∷ 4 ∷ []) $
         free-at ! $ free-at ! $ free-at ! $ free-at ! $ free-at ! $ free-at ! $ free-at ! $ free-at ! $ free1 ! $ free1 ! $ free1 ! $ free1 ! $ free1 ! $ free1 ! $ free1 ! $ free1 ! $ free1 ! $ free0 ! $
         move ! (4 ∷ []) $ use1 W (‵ (lasts callee.ended κs (e, on) (tt, (x-records .now, (tt, (tt, (tt, (tt, (tt, tt))))))))) kept $ keep ! (1 ∷ 3 ∷ 4 ∷ 0 ∷ []) $
-        by ! (exits r ys (x-records .now, (tt, (tt, (tt, (tt, (tt, tt)))))) (away ok x-slot ys (λ e′. f e′ .answer) way, (stays ok x-slot ys (λ e′. set ys x-slot (f e′ .entry)) ys way, (stays ok x-slot ys g-records (x-records .now) way))) (way-is way) refl)) (λ both.
+        by ! (exits r ys (x-records .now, (tt, (tt, (tt, (tt, (tt, tt)))))) (refused-step (x-widths .now) (hub ys (x-records .now)) request way) (way-is way) refl)) (λ both.
         move ! (34 ∷ 35 ∷ 36 ∷ 31 ∷ 25 ∷ 17 ∷ 0 ∷ 11 ∷ 9 ∷ []) $
         reads-record 𝓤 H A W κ q b o γ ys x-slot room (within-table 1 ys others x-slot both) (named 0) l₀ l₁ l₄ l₈ l₁₀ l₁₂ l₁₆ l₁₃ l₉ C Λ _ 1 8 10 refl refl refl End _ 4 12 13 refl refl refl _ (λ is.
         assigns ! (addr ! (from ! (fld ! refl (hop ! (look-in ! 33 (sub ! 0 refl (whole !))) (stop !))))) (from ! (stop !)) (init ! 15 refl (tt, tt)) $
         assigns ! (agg ! (and-then ! (load ! (from ! (stop !)) (look ! 15 refl)) (and-then ! (load ! (from ! (fld ! refl (stop !))) (look-in ! 33 (sub ! 1 refl (whole !)))) (no-more !)))) (from ! (stop !)) (init ! 13 refl (tt, (tt, (record { fits = x-records-fits }, tt)))) $
-        move ! (37 ∷ 38 ∷ []) $ use2 W (raw (Callee 𝓤 H A mem run .pre to)) (with-record-given 𝓤 H A W e is tk Rest ((x-slot < 16) × ((length (x-records .now) ≡ 65536) × ((length (x-widths .now) ≡ 1024)))) (in-slots ok x-slot ys both, (sized-right true gs (both .0) .1 .1 .0, (sized-right true gs (both .0) .1 .1 .1 .0)))) $
-        calls-record fm (Callee 𝓤 H A mem run) known to (Unit {0} × Ws) tk (lasts callee.ended κs (e, on)) (λ d us. (d ≡ f e) × ((us .1 .0 ≡ g-records e))) (λ w. id⊢ 𝓤 _)
+        move ! (37 ∷ 38 ∷ []) $ use2 W (raw (Callee 𝓤 H A mem run .pre to)) (with-record-given 𝓤 H A W e is tk Rest ((x-slot < 16) × ((length (x-records .now) ≡ 65536) × ((length (x-widths .now) ≡ 1024)))) (in-slots (sized true gs) x-slot ys both, (sized-right true gs (both .0) .1 .1 .0, (sized-right true gs (both .0) .1 .1 .1 .0)))) $
+        calls-record fm (Callee 𝓤 H A mem run) known to (Unit {0} × Ws) tk (lasts callee.ended κs (e, on)) _ (λ w. id⊢ 𝓤 _)
         (and-then ! (load ! (from ! (stop !)) (look ! 9 refl)) (and-then ! (load ! (from ! (stop !)) (look ! 14 refl)) (and-then ! (load ! (from ! (stop !)) (look ! 32 refl)) (and-then ! (load ! (from ! (stop !)) (look ! 5 refl)) (and-then ! (load ! (from ! (stop !)) (look ! 29 refl)) (and-then ! (load ! (from ! (stop !)) (look ! 27 refl)) (and-then ! (load ! (from ! (stop !)) (look ! 25 refl)) (no-more !)))))))) (λ w d us said isr tells.
         land ! (from ! (stop !)) (init ! 23 refl (LL.lawful O.the-type O′.the-laws 𝓤 H A W .typed d _ isr .0)) $ rewrite ! 23 (λ (u : Val). ‵ (fat fullShare O′.mir l₉ 0 u)) tells refl $
         move ! (2 ∷ 3 ∷ 4 ∷ 5 ∷ 7 ∷ 8 ∷ 12 ∷ 13 ∷ 23 ∷ []) $
         stores-record 𝓤 H A W κ q b o γ ys x-slot room (within-table 1 ys others x-slot both) (named 0) l₀ l₁ l₄ l₈ l₁₀ l₁₂ l₁₆ l₁₃ l₉ C Λ _ 1 8 10 refl refl refl End _ 16 9 refl refl refl d w isr (λ is-answer.
         move ! (6 ∷ 38 ∷ 3 ∷ 37 ∷ 35 ∷ 36 ∷ 33 ∷ 34 ∷ 11 ∷ 32 ∷ 30 ∷ 31 ∷ 28 ∷ 29 ∷ 26 ∷ 27 ∷ 4 ∷ 25 ∷ 8 ∷ 24 ∷ 5 ∷ 23 ∷ 14 ∷ 22 ∷ 12 ∷ 21 ∷ 13 ∷ 20 ∷ 18 ∷ 19 ∷ 16 ∷ 17 ∷ 7 ∷ 15 ∷ []) $
         free-at ! $ free-at ! $ free-at ! $ free-at ! $ free-at ! $ free-at ! $ free-at ! $ free-at ! $ free-at ! $ free-at ! $ free-at ! $ free1 ! $ free1 ! $ free-at ! $ free-at ! $ free-at ! $ free-at ! $ free0 ! $
-        keep ! (0 ∷ 2 ∷ 3 ∷ 4 ∷ []) $ by ! (exits (d .answer) (set ys x-slot (d .entry)) (us .1) (ap (λ (d′ : Out). d′ .answer) (said .0) ∙ reached ok x-slot ys (λ e′. f e′ .answer) (refusal 11) (refusal 10) both, (ap (λ (d′ : Out). set ys x-slot (d′ .entry)) (said .0) ∙ reached ok x-slot ys (λ e′. set ys x-slot (f e′ .entry)) ys ys both, (said .1 ∙ reached ok x-slot ys g-records (x-records .now) (x-records .now) both))) is-answer (length-set ys x-slot (d .entry))))))))))))))))))))))))
+        keep ! (0 ∷ 2 ∷ 3 ∷ 4 ∷ []) $ by ! (exits (d .answer) (set ys x-slot (d .entry)) (us .1) (taken-step (x-widths .now) (hub ys (x-records .now)) request both d (us .1 .0) (said .0) (said .1)) is-answer (length-set ys x-slot (d .entry))))))))))))))))))))))))
 
 pub halviruso-submit-spec : {M : Type 1} → stated.statement M
 unfolding code.routine tablesOf
