@@ -60,10 +60,10 @@ module _ (widths : List ℕ) (j : Job) (e : Entry) (area : List ℕ) (number : �
       let itsState = ap (λ (x : Entry). x .state) (k .itsEntry) in
       let itsDescriptor = ap (λ (x : Entry). x .descriptor) (k .itsEntry) in
       let passed : free widths (j .descriptor) s part ≡ fine (shifted (s .used) f) =
-          ap (λ (d : Descriptor). free widths d s part) (sym itsDescriptor)
-          ∙ ap (λ (x : State). free widths (e .descriptor) (withUsed x (s .used)) part) (sym itsState)
-          ∙ elements-free widths (e .descriptor) (e .state) (s .used) (cut (e .state .chain) part)
-          ∙ rw (free-of widths (e .descriptor) (e .state) (cut (e .state .chain) part) f (taken .passed))
+      ap (λ (d : Descriptor). free widths d s part) (sym itsDescriptor)
+      ∙ ap (λ (x : State). free widths (e .descriptor) (withUsed x (s .used)) part) (sym itsState)
+      ∙ elements-free widths (e .descriptor) (e .state) (s .used) (cut (e .state .chain) part)
+      ∙ rw (free-of widths (e .descriptor) (e .state) (cut (e .state .chain) part) f (taken .passed))
       in
       let grows = taken .grows in
       let used = k .itsUsed in
