@@ -11,7 +11,7 @@ use lib.Dec.{leb, eqb}
 use borrow.Author.Tests.{le-leb}
 use Rattle.part.specs.Numbers.{origin, ones, signed}
 use Rattle.part.specs.Checks.{Checked, fine, fault, require, startingAt, _>>=_}
-use Rattle.part.specs.States.{withAt, withInline, withBaseline, withUsed, withChain}
+use Rattle.part.specs.States.{withUsed, withChain}
 use Rattle.part.specs.Elements.{Element, Text, RepeatString, AbsoluteMoveInline, AbsoluteMoveBaseline, RelativeMoveInline, RelativeMoveBaseline, BeginLine, SetInlineMargin, SetBaselineIncrement, SetIntercharacterAdjustment, SetVariableSpace, SetCodedFont, SetTextColor, SetTextOrientation, BeginSuppression, EndSuppression, DrawRule, NoOperation}
 use Rattle.part.specs.Reading.{Found, Piece}
 use Rattle.part.specs.Records.{Item, bytesOf, allBytes, room}
@@ -22,7 +22,7 @@ use Rattle.part.specs.Part.{roomed, placed, passed, passedBy, elements, 
 use Rattle.part.specs.declared.shapes.Descriptor.{Descriptor}
 use Rattle.part.specs.declared.shapes.State.{State}
 use Rattle.part.proofs.Checks.{went-on, same-value, after, regrouped}
-use Rattle.part.proofs.Parts.{allBytes-join, place-keeps, room-ends}
+use Rattle.part.proofs.Parts.{allBytes-join, _then_, place-keeps}
 
 -- an effect from another number of bytes used
 abbrev pub shifted : ℕ → Effect → Effect
@@ -96,7 +96,7 @@ module _ (widths : List ℕ) (d : Descriptor) where
       rest f (fault code at) = refl
 
       onward : Checked Effect → Checked Effect
-      onward m = startingAt (p .at) m >>= λ f. free (f .state) ps >>= λ g. effect (g .state) (f .items ++ g .items)
+      onward m = _then_ (startingAt (p .at) m) (λ t. free t ps)
 
       first : ((t : State) → free (withUsed t u) ps ≡ shift u (free t ps)) → (m : Checked Effect) → onward (shift u m) ≡ shift u (onward m)
       first k (fine f) = rw (k (f .state)) (rest f (free (f .state) ps))
@@ -129,23 +129,22 @@ module _ (widths : List ℕ) (d : Descriptor) where
   free-of s [] f h = rw (← (same-value h))
   free-of s (p ∷ ps) f h = read (λ t e. free-of t ps e) (p .what) h
     where
-      onward : State → Effect → Checked Effect
-      onward t e = free t ps >>= λ o. effect (o .state) (e .items ++ o .items)
+      -- what is known of the rest
+      Others : Type 0
+      Others = (t : State) (e : Effect) → elements widths d t ps ≡ fine e → free t ps ≡ fine (shifted (t .used) e)
 
       others : (g : Effect) (m : Checked Effect) → ((o : Effect) → m ≡ fine o → free (g .state) ps ≡ fine (shifted (g .state .used) o))
-          → (m >>= λ o. effect (o .state) (g .items ++ o .items)) ≡ fine f → onward (withUsed (g .state) (s .used)) g ≡ fine (shifted (s .used) f)
+          → _then_ (fine g) (λ _. m) ≡ fine f → _then_ (fine (shifted (s .used) g)) (λ t. free t ps) ≡ fine (shifted (s .used) f)
       others g (fine o) k h = rw (elements-free (g .state) (s .used) ps, k o refl, ← (same-value h))
       others g (fault code at) k h = absurd (let z : _≡_ {A = ℕ} 0 1 = cc in omega arith)
 
-      one : ((t : State) (e : Effect) → elements widths d t ps ≡ fine e → free t ps ≡ fine (shifted (t .used) e)) → (m n : Checked Effect) → ((g : Effect) → m ≡ fine g → n ≡ fine (shifted (s .used) g))
-          → (startingAt (p .at) m >>= λ g. elements widths d (g .state) ps >>= λ o. effect (o .state) (g .items ++ o .items)) ≡ fine f
-          → (startingAt (p .at) n >>= λ g. onward (g .state) g) ≡ fine (shifted (s .used) f)
+      one : Others → (m n : Checked Effect) → ((g : Effect) → m ≡ fine g → n ≡ fine (shifted (s .used) g))
+          → _then_ (startingAt (p .at) m) (λ t. elements widths d t ps) ≡ fine f → _then_ (startingAt (p .at) n) (λ t. free t ps) ≡ fine (shifted (s .used) f)
       one k (fine g) n l h = rw (l g refl) (others g (elements widths d (g .state) ps) (k (g .state)) h)
       one k (fault code at) n l h = absurd (let z : _≡_ {A = ℕ} 0 1 = cc in omega arith)
 
-      read : ((t : State) (e : Effect) → elements widths d t ps ≡ fine e → free t ps ≡ fine (shifted (t .used) e)) → (m : Checked Found)
-          → (startingAt (p .at) (m >>= passed widths d s) >>= λ g. elements widths d (g .state) ps >>= λ o. effect (o .state) (g .items ++ o .items)) ≡ fine f
-          → (startingAt (p .at) (m >>= passedBy (place widths d) s) >>= λ g. onward (g .state) g) ≡ fine (shifted (s .used) f)
+      read : Others → (m : Checked Found) → _then_ (startingAt (p .at) (m >>= passed widths d s)) (λ t. elements widths d t ps) ≡ fine f
+          → _then_ (startingAt (p .at) (m >>= passedBy (place widths d) s)) (λ t. free t ps) ≡ fine (shifted (s .used) f)
       read k (fine found) h = one k (passed widths d s found) (passedBy (place widths d) s found) (λ g. passed-of s found) h
       read k (fault code at) h = absurd (let z : _≡_ {A = ℕ} 0 1 = cc in omega arith)
 
@@ -177,28 +176,27 @@ module _ (widths : List ℕ) (d : Descriptor) where
   more-room s u [] f h enough = rw (← (same-value h), add-zero)
   more-room s u (p ∷ ps) f h enough = read (λ t v e. more-room t v ps e) (p .what) h
     where
-      others : (g : Effect) (m : Checked Effect) → ((o : Effect) → m ≡ fine o → Enough (u + length (allBytes (g .items))) o → elements widths d (grown u g .state) ps ≡ fine (grown (u + length (allBytes (g .items))) o))
-          → (m >>= λ o. effect (o .state) (g .items ++ o .items)) ≡ fine f → Enough u g × ((elements widths d (grown u g .state) ps >>= λ o. effect (o .state) (g .items ++ o .items)) ≡ fine (grown u f))
+      all : State → Checked Effect
+      all t = elements widths d t ps
+
+      Others : Type 0
+      Others = (t : State) (v : ℕ) (e : Effect) → all t ≡ fine e → Enough v e → all (withUsed t v) ≡ fine (grown v e)
+
+      others : (g : Effect) (m : Checked Effect) → ((o : Effect) → m ≡ fine o → Enough (u + length (allBytes (g .items))) o → all (grown u g .state) ≡ fine (grown (u + length (allBytes (g .items))) o))
+          → _then_ (fine g) (λ _. m) ≡ fine f → Enough u g × (_then_ (fine (grown u g)) all ≡ fine (grown u f))
       others g (fine o) k h =
           let same = same-value h in
-          let all = ap (λ (e : Effect). length (allBytes (e .items))) same in
+          let bytes = ap (λ (e : Effect). length (allBytes (e .items))) same in
           let long = ap length (allBytes-join (g .items) (o .items)) ∙ length-append (allBytes (g .items)) (allBytes (o .items)) in
           let total : u + length (allBytes (g .items)) + length (allBytes (o .items)) ≡ u + length (allBytes (g .items ++ o .items)) = omega arith in
           (omega arith, rw (k o refl (omega arith)) (ap (λ (n : ℕ). effect (withUsed (o .state) n) (g .items ++ o .items)) total ∙ ap (λ (e : Effect). fine (grown u e)) same))
       others g (fault code at) k h = absurd (let z : _≡_ {A = ℕ} 0 1 = cc in omega arith)
 
-      one : ((t : State) (v : ℕ) (e : Effect) → elements widths d t ps ≡ fine e → Enough v e → elements widths d (withUsed t v) ps ≡ fine (grown v e))
-          → (m n : Checked Effect) → ((g : Effect) → m ≡ fine g → Enough u g → n ≡ fine (grown u g))
-          → (startingAt (p .at) m >>= λ g. elements widths d (g .state) ps >>= λ o. effect (o .state) (g .items ++ o .items)) ≡ fine f
-          → (startingAt (p .at) n >>= λ g. elements widths d (g .state) ps >>= λ o. effect (o .state) (g .items ++ o .items)) ≡ fine (grown u f)
-      one k (fine g) n l h =
-          let (fits, rest) = others g (elements widths d (g .state) ps) (λ o. k (g .state) (u + length (allBytes (g .items))) o) h in
-          rw (l g refl fits) rest
+      one : Others → (m n : Checked Effect) → ((g : Effect) → m ≡ fine g → Enough u g → n ≡ fine (grown u g))
+          → _then_ (startingAt (p .at) m) all ≡ fine f → _then_ (startingAt (p .at) n) all ≡ fine (grown u f)
+      one k (fine g) n l h = let (fits, rest) = others g (all (g .state)) (λ o. k (g .state) (u + length (allBytes (g .items))) o) h in rw (l g refl fits) rest
       one k (fault code at) n l h = absurd (let z : _≡_ {A = ℕ} 0 1 = cc in omega arith)
 
-      read : ((t : State) (v : ℕ) (e : Effect) → elements widths d t ps ≡ fine e → Enough v e → elements widths d (withUsed t v) ps ≡ fine (grown v e))
-          → (m : Checked Found)
-          → (startingAt (p .at) (m >>= passed widths d s) >>= λ g. elements widths d (g .state) ps >>= λ o. effect (o .state) (g .items ++ o .items)) ≡ fine f
-          → (startingAt (p .at) (m >>= passed widths d (withUsed s u)) >>= λ g. elements widths d (g .state) ps >>= λ o. effect (o .state) (g .items ++ o .items)) ≡ fine (grown u f)
+      read : Others → (m : Checked Found) → _then_ (startingAt (p .at) (m >>= passed widths d s)) all ≡ fine f → _then_ (startingAt (p .at) (m >>= passed widths d (withUsed s u))) all ≡ fine (grown u f)
       read k (fine found) h = one k (passed widths d s found) (passed widths d (withUsed s u) found) (λ g. passed-more s u found) h
       read k (fault code at) h = absurd (let z : _≡_ {A = ℕ} 0 1 = cc in omega arith)
