@@ -3,6 +3,8 @@ use Prim.Native.Nat.{ℕ, zero, suc, _+_, _-_, _*_, _/_, _%_, _^_, _<_, _≤_}
 use mathlib.Core.Path.{_≡_}
 use mathlib.Core.Bool.{Bool, true, not, _&&_, _||_}
 use mathlib.Core.List.{List, [], _∷_, _++_}
+use denote.Ref.{RefT, now}
+use denote.Triple.Both.{Both}
 use lib.ListN.{length, take, drop, getD}
 use lib.Seq.{sets}
 use lib.Dec.{ltb, leb, eqb}
@@ -96,6 +98,16 @@ stateAfter m = m >>= λ e. fine (e .state)
 abbrev pub inked : List ℕ → ℕ → Checked Effect → List ℕ
 inked area used (fine e) = sets area used (allBytes (e .items))
 inked area used (fault code at) = area
+
+-- a slice that is lent to be changed, at entry and at exit
+abbrev pub Lent : Type 0
+Lent = Both (RefT (List ℕ)) (RefT (List ℕ))
+
+-- a function that is lent the working state and the area does an effect: its verdict on the state that it leaves, and the records at the bytes used
+abbrev pub Does : (State → Checked Effect) → ℕ → Lent → Lent → Type 0
+Does what r w area =
+    (verdict r (stateOf (now (w .exit))) ≡ stateAfter (what (stateOf (now (w .entry)))))
+    × (now (area .exit) ≡ inked (now (area .entry)) (getD (now (w .entry)) 11 0) (what (stateOf (now (w .entry)))))
 
 -- what placing relies on: the numbers of the working state in range, 1,024 widths, an area of 4,096 bytes
 pub record Ready (table area w : List ℕ) : Type 0 where

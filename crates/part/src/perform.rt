@@ -3,10 +3,10 @@ ghost use mathlib.Core.Path.{_≡_};
 ghost use mathlib.Core.Bool.{true};
 ghost use Prim.Native.Nat.{_+_, _<_};
 ghost use lib.Dec.{eqb};
-ghost use lib.ListN.{length, getD};
+ghost use lib.ListN.{length};
 ghost use Rattle.part.specs.Numbers.{if_then_else_};
 ghost use Rattle.part.specs.Types.{_takes_};
-ghost use Rattle.part.specs.Code.{verdict, lengthsOf, stateOf, stateAfter, inked, repeating, performed, Ready};
+ghost use Rattle.part.specs.Code.{lengthsOf, Does, repeating, performed, Ready};
 use super::moves::absolute_move;
 use super::moves::begin_line;
 use super::moves::relative_move;
@@ -32,7 +32,7 @@ use super::working::SPACE;
 // RPS: a count, then the text that begins again at its end.
 fn repeat_string(p: &[u8], widths: &[u16], area: &mut [u8], d: Descriptor, w: &mut [u32]) -> u32
     requires { ⌜ Ready (now widths) (now area) (now w) × (length (now p) < 65536) ⌝ }
-    ensures { λ r. ⌜ (verdict r (stateOf (now (w .exit))) ≡ stateAfter (repeating (now (widths .entry)) d (stateOf (now (w .entry))) (now (p .entry)))) × (now (area .exit) ≡ inked (now (area .entry)) (getD (now (w .entry)) 11 0) (repeating (now (widths .entry)) d (stateOf (now (w .entry))) (now (p .entry)))) ⌝ }
+    ensures { λ r. ⌜ Does (λ s. repeating (now (widths .entry)) d s (now (p .entry))) r w area ⌝ }
 {
     let count = word_at(p, 0, 0);
     if count == 0 {
@@ -64,7 +64,7 @@ pub fn perform(
     w: &mut [u32],
 ) -> u32
     requires { ⌜ Ready (now widths) (now area) (now w) × ((length (now p) < 65536) × ((lengthsOf function takes (2 + length (now p))) ≡ true)) ⌝ }
-    ensures { λ r. ⌜ (verdict r (stateOf (now (w .exit))) ≡ stateAfter (performed (now (widths .entry)) d (stateOf (now (w .entry))) function (now (p .entry)))) × (now (area .exit) ≡ inked (now (area .entry)) (getD (now (w .entry)) 11 0) (performed (now (widths .entry)) d (stateOf (now (w .entry))) function (now (p .entry)))) ⌝ }
+    ensures { λ r. ⌜ Does (λ s. performed (now (widths .entry)) d s function (now (p .entry))) r w area ⌝ }
 {
     match function {
         0xC6 => absolute_move(w, I, p),

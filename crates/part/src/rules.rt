@@ -3,12 +3,12 @@ ghost use mathlib.Core.Path.{_≡_};
 ghost use mathlib.Core.Bool.{_&&_};
 ghost use Prim.Native.Nat.{_+_, _<_};
 ghost use lib.Dec.{leb};
-ghost use lib.ListN.{length, getD};
+ghost use lib.ListN.{length};
 ghost use Rattle.part.specs.Numbers.{origin};
 ghost use Rattle.part.specs.Ranges.{upTo, _∈_};
 ghost use Rattle.part.specs.Elements.{ruleWidth};
 ghost use Rattle.part.specs.Place.{along, shownRule};
-ghost use Rattle.part.specs.Code.{verdict, stateOf, stateAfter, inked, recorded, ruled};
+ghost use Rattle.part.specs.Code.{Does, recorded, ruled};
 use super::bools::both;
 use super::bools::either;
 use super::numbers::ONES;
@@ -55,7 +55,7 @@ fn fits_sheet(size_i: u32, size_b: u32, i: u32, b: u32, mark: u32, len: u32, wid
 // The record of a rule at the working state's place, if there is room.
 fn record_rule(area: &mut [u8], w: &mut [u32], mark: u32, len: u32, width: u32) -> u32
     requires { ⌜ (length (now w) ≡ 12) × (length (now area) ≡ 4096) ⌝ }
-    ensures { λ r. ⌜ (verdict r (stateOf (now (w .exit))) ≡ stateAfter (recorded (stateOf (now (w .entry))) (shownRule (stateOf (now (w .entry))) mark len width))) × (now (area .exit) ≡ inked (now (area .entry)) (getD (now (w .entry)) 11 0) (recorded (stateOf (now (w .entry))) (shownRule (stateOf (now (w .entry))) mark len width))) ⌝ }
+    ensures { λ r. ⌜ Does (λ s. recorded s (shownRule s mark len width)) r w area ⌝ }
 {
     let used = wide(w[USED]);
     if 4080 < used {
@@ -82,7 +82,7 @@ fn record_rule(area: &mut [u8], w: &mut [u32], mark: u32, len: u32, width: u32) 
 // A rule: 24, 27, 29.
 pub fn draw_rule(mark: u32, p: &[u8], area: &mut [u8], d: Descriptor, w: &mut [u32]) -> u32
     requires { ⌜ (length (now w) ≡ 12) × (length (now area) ≡ 4096) ⌝ }
-    ensures { λ r. ⌜ (verdict r (stateOf (now (w .exit))) ≡ stateAfter (ruled d (stateOf (now (w .entry))) mark (now (p .entry)))) × (now (area .exit) ≡ inked (now (area .entry)) (getD (now (w .entry)) 11 0) (ruled d (stateOf (now (w .entry))) mark (now (p .entry)))) ⌝ }
+    ensures { λ r. ⌜ Does (λ s. ruled d s mark (now (p .entry))) r w area ⌝ }
 {
     let len = word_at(p, 0, 0);
     let given = word_at(p, 2, 0xFF);

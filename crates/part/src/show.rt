@@ -9,7 +9,7 @@ ghost use Rattle.part.specs.Presenting.{default, hides};
 ghost use Rattle.part.specs.Text.{cycle, characters};
 ghost use Rattle.part.specs.Place.{placeText};
 ghost use Rattle.part.specs.Part.{roomed};
-ghost use Rattle.part.specs.Code.{verdict, reached, stateOf, stateAfter, inked, advanced, baseline, Bounded, Ready};
+ghost use Rattle.part.specs.Code.{Does, reached, stateOf, advanced, baseline, Bounded, Ready};
 use super::bools::either;
 use super::numbers::ONES;
 use super::numbers::wide;
@@ -90,7 +90,7 @@ fn walk_line(
 // The record of a text that leaves I at a place, if there is room.
 fn record_text(t: &[u8], count: usize, area: &mut [u8], w: &mut [u32], i: usize) -> u32
     requires { ⌜ (length (now w) ≡ 12) × ((length (now area) ≡ 4096) × ((getD (now w) 4 0 ≤ 4095) × ((0 < length (now t)) × ((count < 65536) × (i < 4294967296))))) ⌝ }
-    ensures { λ r. ⌜ (verdict r (stateOf (now (w .exit))) ≡ stateAfter (advanced (stateOf (now (w .entry))) i (cycle (now (t .entry)) 0 count))) × (now (area .exit) ≡ inked (now (area .entry)) (getD (now (w .entry)) 11 0) (advanced (stateOf (now (w .entry))) i (cycle (now (t .entry)) 0 count))) ⌝ }
+    ensures { λ r. ⌜ Does (λ s. advanced s i (cycle (now (t .entry)) 0 count)) r w area ⌝ }
 {
     let used = wide(w[USED]);
     let end = used + 16 + count;
@@ -124,7 +124,7 @@ pub fn show_text(
     w: &mut [u32],
 ) -> u32
     requires { ⌜ Ready (now widths) (now area) (now w) × ((0 < count → 0 < length (now t)) × ((length (now t) < 65536) × (count < 65536))) ⌝ }
-    ensures { λ r. ⌜ (verdict r (stateOf (now (w .exit))) ≡ stateAfter (roomed (stateOf (now (w .entry))) (placeText (now (widths .entry)) d (stateOf (now (w .entry))) (cycle (now (t .entry)) 0 count)))) × (now (area .exit) ≡ inked (now (area .entry)) (getD (now (w .entry)) 11 0) (roomed (stateOf (now (w .entry))) (placeText (now (widths .entry)) d (stateOf (now (w .entry))) (cycle (now (t .entry)) 0 count)))) ⌝ }
+    ensures { λ r. ⌜ Does (λ s. roomed s (placeText (now (widths .entry)) d s (cycle (now (t .entry)) 0 count))) r w area ⌝ }
 {
     if count == 0 {
         return 0;
