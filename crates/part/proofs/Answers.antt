@@ -15,7 +15,7 @@ use Rattle.part.specs.Reading.{cut}
 use Rattle.part.specs.Records.{allBytes}
 use Rattle.part.specs.Place.{Effect}
 use Rattle.part.specs.Part.{elements, admitted, outcome, answer, interpreted, areaAfter}
-use Rattle.part.specs.Code.{verdict, admittedBy, Leaves}
+use Rattle.part.specs.Code.{verdict, admittedBy, Completed}
 use Rattle.part.specs.declared.shapes.Descriptor.{Descriptor}
 use Rattle.part.specs.declared.shapes.State.{State}
 use Rattle.part.specs.declared.shapes.Interpreted.{Interpreted}
@@ -74,11 +74,11 @@ module _ (widths : List ℕ) (d : Descriptor) (s : State) (part area : List ℕ)
       pub writes : sets area (s .used) (take (t .used - s .used) (drop (s .used) scratch)) ≡ areaAfter widths d s part area
 
     pub whole : (count : ℕ) (t : State) (before scratch : List ℕ) → length before ≡ 4096 → length scratch ≡ 4096
-        → Leaves (elements widths d s (cut (s .chain) part)) (length (cut (s .chain) part)) (s .used) before count t scratch → Whole count t scratch
+        → Completed (elements widths d s (cut (s .chain) part)) (length (cut (s .chain) part)) (s .used) before count t scratch → Whole count t scratch
     unfolding interpreted areaAfter outcome admitted
     whole count t before scratch lb ls h = go (elements widths d s (cut (s .chain) part)) refl h
       where
-        go : (m : Checked Effect) → elements widths d s (cut (s .chain) part) ≡ m → Leaves m (length (cut (s .chain) part)) (s .used) before count t scratch → Whole count t scratch
+        go : (m : Checked Effect) → elements widths d s (cut (s .chain) part) ≡ m → Completed m (length (cut (s .chain) part)) (s .used) before count t scratch → Whole count t scratch
         go (fault code at) e r = absurd r
         go (fine f) e r =
             let fit = fits (length part) (length widths) (length area) d s adm in

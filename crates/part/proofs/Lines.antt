@@ -16,7 +16,7 @@ use Rattle.part.specs.Numbers.{if_then_else_, origin, last}
 use Rattle.part.specs.Checks.{Checked, fine, fault, _>>=_}
 use Rattle.part.specs.Presenting.{moved}
 use Rattle.part.specs.Text.{cycle}
-use Rattle.part.specs.Code.{verdict, reached, widthIn, stepped, along, sumOf, widthsOf, rowWidths, isSpace, spacesIn, AtLeast, Fixed}
+use Rattle.part.specs.Code.{verdict, reached, widthIn, stepped, walked, sumOf, widthsOf, rowWidths, isSpace, spacesIn, AtLeast, Fixed}
 use Rattle.part.specs.declared.text.Line.{Line}
 use Rattle.part.specs.declared.presenting.Reached.{Reached}
 use Rattle.part.proofs.Checks.{after, regrouped}
@@ -159,40 +159,40 @@ Clear l i next = (l .shown ≡ false) ⊎ ((origin ≤ i) × (next ≤ l .limit 
 
 module _ (row : List ℕ) (l : Line) where
   -- a then b
-  pub along-then : (i : ℕ) (a b : List ℕ) → along row l i (a ++ b) ≡ (along row l i a >>= λ j. along row l j b)
-  unfolding along
+  pub along-then : (i : ℕ) (a b : List ℕ) → walked row l i (a ++ b) ≡ (walked row l i a >>= λ j. walked row l j b)
+  unfolding walked
   along-then i [] b = refl
   along-then i (c ∷ a) b =
       let m = stepped row l i (widthIn row (l .space) c) in
-      after m (λ j. along row l j (a ++ b)) (λ j. along row l j a >>= λ k. along row l k b) (λ j. along-then j a b)
-      ∙ sym (regrouped m (λ j. along row l j a) (λ j. along row l j b))
+      after m (λ j. walked row l j (a ++ b)) (λ j. walked row l j a >>= λ k. walked row l k b) (λ j. along-then j a b)
+      ∙ sym (regrouped m (λ j. walked row l j a) (λ j. walked row l j b))
 
   -- those from number k on: a character of width w that goes on, one that is refused, and none left
   module _ (t : List ℕ) (k i : ℕ) {w : ℕ} (h : k < length t) (e : w ≡ widthIn row (l .space) (getD t k 0)) where
-    pub goes-on : {j : ℕ} → stepped row l i w ≡ fine j → along row l j (drop (k + 1) t) ≡ along row l i (drop k t)
-    unfolding along
-    goes-on step = rw (add-one, drop-cons t k 0 h, along, ← e, step)
+    pub goes-on : {j : ℕ} → stepped row l i w ≡ fine j → walked row l j (drop (k + 1) t) ≡ walked row l i (drop k t)
+    unfolding walked
+    goes-on step = rw (add-one, drop-cons t k 0 h, walked, ← e, step)
 
-    pub halts : {code at : ℕ} → stepped row l i w ≡ fault code at → along row l i (drop k t) ≡ fault code at
-    unfolding along
-    halts step = rw (drop-cons t k 0 h, along, ← e, step)
+    pub halts : {code at : ℕ} → stepped row l i w ≡ fault code at → walked row l i (drop k t) ≡ fault code at
+    unfolding walked
+    halts step = rw (drop-cons t k 0 h, walked, ← e, step)
 
-  pub arrives : (t : List ℕ) (k i : ℕ) → length t ≤ k → along row l i (drop k t) ≡ fine i
-  unfolding along
+  pub arrives : (t : List ℕ) (k i : ℕ) → length t ≤ k → walked row l i (drop k t) ≡ fine i
+  unfolding walked
   arrives t k i h = rw (drop-of-length-le t h)
 
   -- a round of a text that begins again at its end, where more than one is left
-  module _ (t : List ℕ) (i left : ℕ) (r : Reached) (h : length t ≤ left) (e : reached r ≡ along row l i t) where
-    one-round : along row l i (cycle t 0 left) ≡ (reached r >>= λ j. along row l j (cycle t 0 (left - length t)))
+  module _ (t : List ℕ) (i left : ℕ) (r : Reached) (h : length t ≤ left) (e : reached r ≡ walked row l i t) where
+    one-round : walked row l i (cycle t 0 left) ≡ (reached r >>= λ j. walked row l j (cycle t 0 (left - length t)))
     one-round =
         let more : left ≡ length t + (left - length t) = omega arith in
         let all : cycle t 0 left ≡ t ++ cycle t 0 (left - length t) = ap (cycle t 0) more ∙ round t (left - length t) in
         rw (all, along-then i t (cycle t 0 (left - length t)), ← e)
 
-    pub round-halts : (r .fault ≡ 0 → ⊥) → along row l i (cycle t 0 left) ≡ reached r
-    round-halts f = one-round ∙ refused (r .fault) (r .at) (λ j. along row l j (cycle t 0 (left - length t))) f
+    pub round-halts : (r .fault ≡ 0 → ⊥) → walked row l i (cycle t 0 left) ≡ reached r
+    round-halts f = one-round ∙ refused (r .fault) (r .at) (λ j. walked row l j (cycle t 0 (left - length t))) f
 
-    pub round-on : r .fault ≡ 0 → along row l (r .at) (cycle t 0 (left - length t)) ≡ along row l i (cycle t 0 left)
+    pub round-on : r .fault ≡ 0 → walked row l (r .at) (cycle t 0 (left - length t)) ≡ walked row l i (cycle t 0 left)
     round-on f = sym (rw f at one-round)
 
   -- ---- one character of width w at i
@@ -226,8 +226,8 @@ module _ (row : List ℕ) (l : Line) where
       moves m h = rw (advanced, le-leb (l .minus) (i + w + l .plus) m, le-leb (i + w + l .plus) (last + l .minus) (omega arith))
 
   -- From where a level line begins, its characters take it to its end.
-  pub level : (i end : ℕ) (cs : List ℕ) → l .minus ≡ 0 → i + widthsOf row (l .space) cs + length cs * l .plus ≡ end → end ≤ last → Clear l i end → along row l i cs ≡ fine end
-  unfolding along sumOf
+  pub level : (i end : ℕ) (cs : List ℕ) → l .minus ≡ 0 → i + widthsOf row (l .space) cs + length cs * l .plus ≡ end → end ≤ last → Clear l i end → walked row l i cs ≡ fine end
+  unfolding walked sumOf
   level i end [] z e m clear =
       let sum : i + 0 + 0 ≡ end = rw zero-mul at e in
       ap fine (omega arith)
@@ -237,15 +237,15 @@ module _ (row : List ℕ) (l : Line) where
       let sum : i + (w + widthsOf row (l .space) cs) + (length cs * l .plus + l .plus) ≡ end = rw suc-mul at e in
       let here : Clear l i (i + w + l .plus) = ⊎-elim (λ s. inl s) (λ b. inr (b .0, omega arith)) clear in
       let further : Clear l j end = ⊎-elim (λ s. inl s) (λ b. inr (omega arith, b .1)) clear in
-      rw (along, moves i w here (omega arith) (omega arith)) (level j end cs z (omega arith) m further)
+      rw (walked, moves i w here (omega arith) (omega arith)) (level j end cs z (omega arith) m further)
 
-  pub level-cycle : (t : List ℕ) (i count total : ℕ) → total ≡ widthsOf row (l .space) (cycle t 0 count) → l .minus ≡ 0 → i + total + count * l .plus ≤ last → Clear l i (i + total + count * l .plus) → along row l i (cycle t 0 count) ≡ fine (i + total + count * l .plus)
+  pub level-cycle : (t : List ℕ) (i count total : ℕ) → total ≡ widthsOf row (l .space) (cycle t 0 count) → l .minus ≡ 0 → i + total + count * l .plus ≤ last → Clear l i (i + total + count * l .plus) → walked row l i (cycle t 0 count) ≡ fine (i + total + count * l .plus)
   level-cycle t i count total e z m clear =
       level i (i + total + count * l .plus) (cycle t 0 count) z (rw (← e, length-cycle t 0 count)) m clear
 
   -- The same where an adjustment is subtracted and no character is narrower than it.
-  pub rising : (i end : ℕ) (cs : List ℕ) → AtLeast (widthIn row (l .space)) (l .minus) cs → i + widthsOf row (l .space) cs + length cs * l .plus ≡ end + length cs * l .minus → end ≤ last → Clear l i (end + l .minus) → along row l i cs ≡ fine end
-  unfolding along sumOf
+  pub rising : (i end : ℕ) (cs : List ℕ) → AtLeast (widthIn row (l .space)) (l .minus) cs → i + widthsOf row (l .space) cs + length cs * l .plus ≡ end + length cs * l .minus → end ≤ last → Clear l i (end + l .minus) → walked row l i cs ≡ fine end
+  unfolding walked sumOf
   rising i end [] low e m clear =
       let sum : i + 0 + 0 ≡ end + 0 = rw (zero-mul, zero-mul) at e in
       ap fine (omega arith)
@@ -257,14 +257,14 @@ module _ (row : List ℕ) (l : Line) where
       let wide = low .0 in
       let here : Clear l i (i + w + l .plus) = ⊎-elim (λ s. inl s) (λ b. inr (b .0, omega arith)) clear in
       let further : Clear l j (end + l .minus) = ⊎-elim (λ s. inl s) (λ b. inr (omega arith, b .1)) clear in
-      rw (along, moves i w here (omega arith) (omega arith)) (rising j end cs (low .1) (omega arith) m further)
+      rw (walked, moves i w here (omega arith) (omega arith)) (rising j end cs (low .1) (omega arith) m further)
 
   module _ (t : List ℕ) (i total least : ℕ) (e : total ≡ widthsOf row (l .space) t) (low : AtLeast (widthIn row (l .space)) least t) (h : l .minus ≤ least) where
     pub rising-far : length t * l .minus ≤ i + total + length t * l .plus
     rising-far = omega (arith, sum-least (widthIn row (l .space)) (l .minus) t (weaker (widthIn row (l .space)) least (l .minus) t h low))
 
     pub rising-text : i + total + length t * l .plus - length t * l .minus ≤ last → Clear l i (i + total + length t * l .plus - length t * l .minus + l .minus)
-        → along row l i t ≡ fine (i + total + length t * l .plus - length t * l .minus)
+        → walked row l i t ≡ fine (i + total + length t * l .plus - length t * l .minus)
     rising-text m clear =
         let far = rising-far in
         rising i (i + total + length t * l .plus - length t * l .minus) t (weaker (widthIn row (l .space)) least (l .minus) t h low) (omega arith) m clear

@@ -15,7 +15,7 @@ use Rattle.part.specs.States.{withInline}
 use Rattle.part.specs.Presenting.{default, hides}
 use Rattle.part.specs.Text.{widthOf, character, characters, cycle}
 use Rattle.part.specs.Text as text
-use Rattle.part.specs.Code.{baseline, widthIn, stepped, along}
+use Rattle.part.specs.Code.{baseline, widthIn, stepped, walked}
 use Rattle.part.specs.declared.shapes.Descriptor.{Descriptor}
 use Rattle.part.specs.declared.shapes.State.{State}
 use Rattle.part.specs.declared.text.Line.{Line}
@@ -103,12 +103,12 @@ module _ (widths row : List ℕ) (d : Descriptor) (s : State) (l : Line) (follow
       let tests = seen (hides d s) (leb origin i) (leb (i + w) (origin + d .size .i)) (leb origin (s .at .b)) (leb (s .at .b + 0) (origin + d .size .b)) e in
       rw (same-width c h, follows .shown, follows .limit, follows .plus, follows .minus, tests)
 
-  pub characters-along : (i : ℕ) (cs : List ℕ) → Bytes cs → characters widths d s i cs ≡ along row l i cs
-  unfolding characters along
+  pub characters-along : (i : ℕ) (cs : List ℕ) → Bytes cs → characters widths d s i cs ≡ walked row l i cs
+  unfolding characters walked
   characters-along i [] h = refl
   characters-along i (c ∷ cs) h =
       let m = stepped row l i (widthIn row (l .space) c) in
-      rw (characters, along, same-step i c (h 0)) (after m (λ j. characters widths d s j cs) (λ j. along row l j cs) (λ j. characters-along j cs (λ k. h (suc k))))
+      rw (characters, walked, same-step i c (h 0)) (after m (λ j. characters widths d s j cs) (λ j. walked row l j cs) (λ j. characters-along j cs (λ k. h (suc k))))
 
 -- Where it is not, the first character is refused.
 pub characters-off : (widths : List ℕ) (d : Descriptor) (s : State) (i : ℕ) (cs : List ℕ) → baseline d s ≡ false → 0 < length cs → characters widths d s i cs ≡ fault 27 0

@@ -19,7 +19,7 @@ use Rattle.part.specs.Records.{Item, allBytes}
 use Rattle.part.specs.Text.{cycle}
 use Rattle.part.specs.Place.{Effect, effect, place, placeText}
 use Rattle.part.specs.Part.{roomed, placed, passed, passedBy, elements, elementsBy}
-use Rattle.part.specs.Code.{verdict, stateOf, stateAfter, inked, performed, Ready, Leaves, Ran}
+use Rattle.part.specs.Code.{verdict, stateOf, stateAfter, inked, performed, Ready, Completed, Ran}
 use Rattle.part.specs.declared.shapes.Descriptor.{Descriptor}
 use Rattle.part.specs.declared.shapes.State.{State}
 use Rattle.part.proofs.Bounds.{used-fits}
@@ -209,7 +209,7 @@ module _ (widths : List ℕ) (d : Descriptor) (part w₀ area₀ area w : List �
   abbrev many : ℕ
   many = length (cut (getD w₀ 10 0) part)
 
-  pub ended : length part ≤ at → Leaves all many (getD w₀ 11 0) area₀ count (stateOf w) area
+  pub ended : length part ≤ at → Completed all many (getD w₀ 11 0) area₀ count (stateOf w) area
   unfolding elementsBy
   ended h =
       let none : length part - at ≡ 0 = omega arith in

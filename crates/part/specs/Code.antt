@@ -172,9 +172,9 @@ module _ (row : List ℕ) (l : Line) where
     require (not (l .shown) || leb origin i && leb (i + width) (l .limit)) 27
     moved i (width + l .plus) (l .minus)
 
-  unfoldable pub along : ℕ → List ℕ → Checked ℕ
-  along i [] = fine i
-  along i (c ∷ cs) = stepped i (widthIn row (l .space) c) >>= λ j. along j cs
+  unfoldable pub walked : ℕ → List ℕ → Checked ℕ
+  walked i [] = fine i
+  walked i (c ∷ cs) = stepped i (widthIn row (l .space) c) >>= λ j. walked j cs
 
 -- a number for each of some characters, together
 unfoldable pub sumOf : (ℕ → ℕ) → List ℕ → ℕ
@@ -218,13 +218,13 @@ headBytes h =
 -- ---- a run over a part's elements
 
 -- what a run leaves of an outcome: the state and as many elements, with the records behind the bytes used; or the refusal
-abbrev pub Leaves : Checked Effect → ℕ → ℕ → List ℕ → ℕ → State → List ℕ → Type 0
-Leaves (fine e) many used before count s area = (e .state ≡ s) × ((many ≡ count) × (take (s .used) area ≡ take used before ++ allBytes (e .items)))
-Leaves (fault code at) many used before count s area = ⊥
+abbrev pub Completed : Checked Effect → ℕ → ℕ → List ℕ → ℕ → State → List ℕ → Type 0
+Completed (fine e) many used before count s area = (e .state ≡ s) × ((many ≡ count) × (take (s .used) area ≡ take used before ++ allBytes (e .items)))
+Completed (fault code at) many used before count s area = ⊥
 
 abbrev pub Ran : Checked Effect → ℕ → ℕ → List ℕ → Outcome → State → List ℕ → Type 0
 Ran m many used before o s area =
-    elim (o .fault) [ zero ↦ Leaves m many used before (o .count) s area | suc n ↦ m ≡ fault (suc n % 256) (o .at + suc n / 256) ]
+    elim (o .fault) [ zero ↦ Completed m many used before (o .count) s area | suc n ↦ m ≡ fault (suc n % 256) (o .at + suc n / 256) ]
 
 -- ---- the tests before any element, by the lengths alone
 

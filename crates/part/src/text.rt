@@ -4,7 +4,7 @@ ghost use mathlib.Core.Bool.{true};
 ghost use Prim.Native.Nat.{_+_, _*_, _≤_, _<_};
 ghost use lib.ListN.{length, getD, drop};
 ghost use Rattle.part.specs.Text.{cycle};
-ghost use Rattle.part.specs.Code.{reached, widthIn, along, rowWidths, isSpace, spacesIn, widthsOf, AtLeast, Fixed};
+ghost use Rattle.part.specs.Code.{reached, widthIn, walked, rowWidths, isSpace, spacesIn, widthsOf, AtLeast, Fixed};
 use super::numbers::LAST;
 use super::numbers::lesser;
 use super::presenting::ORIGIN;
@@ -172,7 +172,7 @@ fn cycle_total(t: &[u8], count: usize, whole: usize, row: &[u16], space: usize) 
 // Character by character, 27 before 28.
 fn walk(t: &[u8], row: &[u16], l: Line, start: usize) -> Reached
     requires { ⌜ (length (now row) ≡ 256) × ((l .space < 4294967296) × ((l .plus < 4294967296) × ((l .minus < 4294967296) × (start < 4294967296)))) ⌝ }
-    ensures { λ r. ⌜ (reached r ≡ along (now (row .entry)) l start (now (t .entry))) × (r .at < 4294967296) ⌝ }
+    ensures { λ r. ⌜ (reached r ≡ walked (now (row .entry)) l start (now (t .entry))) × (r .at < 4294967296) ⌝ }
 {
     let mut i = start;
     let mut k: usize = 0;
@@ -203,7 +203,7 @@ fn walk(t: &[u8], row: &[u16], l: Line, start: usize) -> Reached
 // The same for `count` characters of a text that begins again at its end, a round at a time.
 fn walk_cycle(t: &[u8], count: usize, row: &[u16], l: Line, start: usize) -> Reached
     requires { ⌜ (length (now row) ≡ 256) × ((l .space < 4294967296) × ((l .plus < 4294967296) × ((l .minus < 4294967296) × ((start < 4294967296) × (0 < length (now t)))))) ⌝ }
-    ensures { λ r. ⌜ (reached r ≡ along (now (row .entry)) l start (cycle (now (t .entry)) 0 count)) × (r .at < 4294967296) ⌝ }
+    ensures { λ r. ⌜ (reached r ≡ walked (now (row .entry)) l start (cycle (now (t .entry)) 0 count)) × (r .at < 4294967296) ⌝ }
 {
     let n = t.len();
     let mut i = start;
@@ -250,7 +250,7 @@ fn narrowest(t: &[u8], row: &[u16], space: usize) -> usize
 fn present_back(t: &[u8], whole: usize, row: &[u16], l: Line, start: usize) -> Reached
     requires { ⌜ (length (now row) ≡ 256) × ((l .space < 4294967296) × ((l .limit < 8589934592) × ((l .plus < 4294967296) × ((l .minus < 4294967296) × ((start < 4294967296) × (length (now t) < 65536)))))) ⌝ }
     requires { ⌜ (whole ≡ widthsOf (now row) (l .space) (now t)) × (whole ≤ 4294967296 * length (now t)) ⌝ }
-    ensures { λ r. ⌜ (reached r ≡ along (now (row .entry)) l start (now (t .entry))) × (r .at < 4294967296) ⌝ }
+    ensures { λ r. ⌜ (reached r ≡ walked (now (row .entry)) l start (now (t .entry))) × (r .at < 4294967296) ⌝ }
 {
     if l.minus <= narrowest(t, row, l.space) {
         let n = t.len();
@@ -273,7 +273,7 @@ fn present_back(t: &[u8], whole: usize, row: &[u16], l: Line, start: usize) -> R
 // Where `count` characters of a text leave I. Where the adjustment is not taken off, I does not fall, and the last character's end decides for all.
 pub fn present(t: &[u8], count: usize, row: &[u16], l: Line, start: usize) -> Reached
     requires { ⌜ (length (now row) ≡ 256) × ((l .space < 4294967296) × ((l .limit < 8589934592) × ((l .plus < 4294967296) × ((l .minus < 4294967296) × ((start < 4294967296) × ((0 < length (now t)) × ((length (now t) < 65536) × (count < 65536)))))))) ⌝ }
-    ensures { λ r. ⌜ (reached r ≡ along (now (row .entry)) l start (cycle (now (t .entry)) 0 count)) × (r .at < 4294967296) ⌝ }
+    ensures { λ r. ⌜ (reached r ≡ walked (now (row .entry)) l start (cycle (now (t .entry)) 0 count)) × (r .at < 4294967296) ⌝ }
 {
     let whole = total(t, row, l.space);
     if l.minus == 0 {

@@ -7,13 +7,13 @@ use native.Mathlib.Omega.{arith}
 use borrow.Author.Needs.{needs}
 use denote.Ref.{now}
 use lib.ListN.{length, drop}
-use Rattle.part.specs.Code.{along}
+use Rattle.part.specs.Code.{walked}
 use Rattle.part.proofs.Lines.{Clear, goes-on, halts, arrives, off-start, off-end, too-low, too-high, moves}
 use Rattle.part.proofs.text.walk.Statement.{statement}
 use Rattle.part.proofs.text.walk.Tie as tie
 
 abbrev Inv-loop : tie.InvT-loop
-Inv-loop t row l start i₀ k₀ i k = (k ≤ length t) × ((i < 4294967296) × (along row l i (drop k t) ≡ along row l start t))
+Inv-loop t row l start i₀ k₀ i k = (k ≤ length t) × ((i < 4294967296) × (walked row l i (drop k t) ≡ walked row l start t))
 
 abbrev μ-loop : tie.MeasureT-loop
 μ-loop t row l start i₀ k₀ i k = length t - k

@@ -6,14 +6,14 @@ use borrow.Author.Needs.{needs}
 use denote.Ref.{now}
 use lib.Seq.{length-take-le}
 use Rattle.part.specs.Text.{cycle}
-use Rattle.part.specs.Code.{along}
+use Rattle.part.specs.Code.{walked}
 use Rattle.part.proofs.Cycles.{cycle-take}
 use Rattle.part.proofs.Lines.{round-halts, round-on}
 use Rattle.part.proofs.text.walk_cycle.Statement.{statement}
 use Rattle.part.proofs.text.walk_cycle.Tie as tie
 
 abbrev Inv-loop : tie.InvT-loop
-Inv-loop t count row l start n i₀ left₀ i left = (i < 4294967296) × (along row l i (cycle t 0 left) ≡ along row l start (cycle t 0 count))
+Inv-loop t count row l start n i₀ left₀ i left = (i < 4294967296) × (walked row l i (cycle t 0 left) ≡ walked row l start (cycle t 0 count))
 
 abbrev μ-loop : tie.MeasureT-loop
 μ-loop t count row l start n i₀ left₀ i left = left
