@@ -13,25 +13,43 @@ use borrow.Author.Tests.{leb-true, le-leb, eqb-true}
 use Rattle.part.specs.Numbers.{if_then_else_, origin, ones, byte, word, signed}
 use Rattle.part.specs.Checks.{Checked, fine, fault, require, _>>=_, _>>_}
 use Rattle.part.specs.Ranges.{upTo, only, colours, _to_, _or_, _∈_}
-use Rattle.part.specs.Elements.{ruleWidth, drawnRule}
+use Rattle.part.specs.Elements.{Element, ruleWidth, drawnRule}
 use Rattle.part.specs.States.{point, withAt, withSuppression}
-use Rattle.part.specs.Types.{types}
+use Rattle.part.specs.Types.{Lengths, all, allBut, _takes_, Row, types, rowOf, valuesOf}
 use Rattle.part.specs.Presenting.{default, moved}
 use Rattle.part.specs.Text.{cycle}
-use Rattle.part.specs.Place.{becomes, toInline, toBaseline, place, placeText}
+use Rattle.part.specs.Place.{Effect, becomes, toInline, toBaseline, place, placeText}
 use Rattle.part.specs.Part.{roomed, placed}
 use Rattle.part.specs.Code.{verdict, stateOf, stateAfter, inked, ruled, repeating, performed}
 use Rattle.part.specs.Working.{absolute, relative, line, setting, fontSetting, adjusting, oriented, beginning, ending}
 use Rattle.part.specs.declared.shapes.Descriptor.{Descriptor}
 use Rattle.part.specs.declared.shapes.State.{State}
+use Rattle.part.proofs.Checks.{same-value}
 use Rattle.part.proofs.Cycles.{once}
 use Rattle.part.proofs.Places.{inline-set, baseline-set, line-set, margin-set, increment-set, adjustment-set, font-set, colour-set, space-set, suppression-set}
 
--- a function that stores no record: its verdict on the numbers is that on the state, and the area stays
-pub plainly : {A : Type 0} (n : ℕ) (a : A) (m : Checked A) (f : A → State) (area : List ℕ) (used : ℕ) → verdict n a ≡ m
-    → (verdict n (f a) ≡ stateAfter (m >>= λ x. becomes (f x))) × (area ≡ inked area used (m >>= λ x. becomes (f x)))
-plainly zero a m f area used e = rw (← e) (refl, refl)
-plainly (suc n) a m f area used e = rw (← e) (refl, refl)
+-- a function that stores no record, behind the test of the LENGTH: its verdict on the numbers is that on the state, and the area stays
+pub plainly : {A : Type 0} (t : Bool) (n : ℕ) (a : A) (m : Checked A) (f : A → State) (area : List ℕ) (used : ℕ) → verdict n a ≡ (require t 22 >> m)
+    → (verdict n (f a) ≡ stateAfter (require t 22 >> (m >>= λ x. becomes (f x)))) × (area ≡ inked area used (require t 22 >> (m >>= λ x. becomes (f x))))
+plainly true zero a m f area used e = rw (← e) (refl, refl)
+plainly true (suc n) a m f area used e = rw (← e) (refl, refl)
+plainly false zero a m f area used e = absurd (let z : _≡_ {A = ℕ} 0 1 = cc in omega arith)
+plainly false (suc n) a m f area used e = (cc, refl)
+
+-- the LENGTH is one of the row's, or it is not
+pub passing : {A : Type 0} (t : Bool) (x m : Checked A) → t ≡ true → x ≡ m → x ≡ (require t 22 >> m)
+passing true x m h e = e
+passing false x m h e = cc
+
+pub sizing : (t : Bool) (m : Checked Effect) (x : Checked State) (before after : List ℕ) (used : ℕ) → t ≡ true → (x ≡ stateAfter m) × (after ≡ inked before used m)
+    → (x ≡ stateAfter (require t 22 >> m)) × (after ≡ inked before used (require t 22 >> m))
+sizing true m x before after used h e = e
+sizing false m x before after used h e = (cc, cc)
+
+pub unsized : (t : Bool) (m : Checked Effect) (s : State) (area : List ℕ) (used : ℕ) → t ≡ false
+    → (verdict 22 s ≡ stateAfter (require t 22 >> m)) × (area ≡ inked area used (require t 22 >> m))
+unsized true m s area used h = (cc, cc)
+unsized false m s area used h = (refl, refl)
 
 -- a test in front: what follows a value that passed
 under : {A B : Type 0} (t : Bool) (code : ℕ) (a : A) (f : A → Checked B) (m : Checked B) → (t ≡ true → f a ≡ m) → ((require t code >> fine a) >>= f) ≡ (require t code >> m)
@@ -48,8 +66,24 @@ after-test true code a f m g h = h refl
 after-test false code a f m g h = refl
 
 module _ (widths : List ℕ) (d : Descriptor) (w p : List ℕ) (twelve : length w ≡ 12) where
-  abbrev does : ℕ → Checked (List ℕ) → Type 0
-  does function m = performed widths d (stateOf w) function p ≡ (m >>= λ l. becomes (stateOf l))
+  -- a type does what follows its row's test
+  abbrev does : ℕ → Lengths → Checked Effect → Type 0
+  does function ns m = performed widths d (stateOf w) function p ≡ (require (ns takes (2 + length p)) 22 >> m)
+
+  abbrev plain : Checked (List ℕ) → Checked Effect
+  plain m = m >>= λ l. becomes (stateOf l)
+
+  asked : (function : ℕ) (ns : Lengths) (m : Checked Effect) → (rowOf types function >>= λ r. fine (r .lengths)) ≡ fine ns → (valuesOf function p >>= placed widths d (stateOf w)) ≡ m → does function ns m
+  asked function ns m e h = go (rowOf types function) e h
+    where
+      tests : (t : Bool) (v : Checked Element) → (v >>= placed widths d (stateOf w)) ≡ m → ((require t 22 >> v) >>= placed widths d (stateOf w)) ≡ (require t 22 >> m)
+      tests true v h = h
+      tests false v h = refl
+
+      go : (q : Checked Row) → (q >>= λ r. fine (r .lengths)) ≡ fine ns → ((q >>= λ r. r .values p) >>= placed widths d (stateOf w)) ≡ m
+          → ((q >>= λ r. require (r .lengths takes (2 + length p)) 22 >> r .values p) >>= placed widths d (stateOf w)) ≡ (require (ns takes (2 + length p)) 22 >> m)
+      go (fine r) e h = rw (same-value e) (tests (ns takes (2 + length p)) (r .values p) h)
+      go (fault code at) e h = absurd (let z : _≡_ {A = ℕ} 0 1 = cc in omega arith)
 
   -- ---- moves
 
@@ -60,13 +94,13 @@ module _ (widths : List ℕ) (d : Descriptor) (w p : List ℕ) (twelve : length 
       let h : v ≤ 0x7FFF = leb-true v 0x7FFF t in
       rw (le-leb 0 (origin + v) (omega arith), le-leb (origin + v) 65535 (omega arith), sub-zero)
 
-  pub arm-AMI : does 0xC6 (absolute w 0 p)
+  pub arm-AMI : does 0xC6 (all 4 4) (plain (absolute w 0 p))
   unfolding types placed place
-  arm-AMI = alike (leb (word 0 p 0) 0x7FFF) 24 _ _ _ _ (λ t. rw (absolute-within t, inline-set w twelve (origin + word 0 p 0)))
+  arm-AMI = asked 0xC6 (all 4 4) (plain (absolute w 0 p)) refl (alike (leb (word 0 p 0) 0x7FFF) 24 _ _ _ _ (λ t. rw (absolute-within t, inline-set w twelve (origin + word 0 p 0))))
 
-  pub arm-AMB : does 0xD2 (absolute w 1 p)
+  pub arm-AMB : does 0xD2 (all 4 4) (plain (absolute w 1 p))
   unfolding types placed place
-  arm-AMB = alike (leb (word 0 p 0) 0x7FFF) 24 _ _ _ _ (λ t. rw (absolute-within t, baseline-set w twelve (origin + word 0 p 0)))
+  arm-AMB = asked 0xD2 (all 4 4) (plain (absolute w 1 p)) refl (alike (leb (word 0 p 0) 0x7FFF) 24 _ _ _ _ (λ t. rw (absolute-within t, baseline-set w twelve (origin + word 0 p 0))))
 
   inline-arm : (m : Checked ℕ) → roomed (stateOf w) (toInline (stateOf w) m) ≡ ((m >>= λ n. fine (set w 0 n)) >>= λ l. becomes (stateOf l))
   inline-arm (fine n) = rw (inline-set w twelve n)
@@ -76,17 +110,17 @@ module _ (widths : List ℕ) (d : Descriptor) (w p : List ℕ) (twelve : length 
   baseline-arm (fine n) = rw (baseline-set w twelve n)
   baseline-arm (fault code at) = refl
 
-  pub arm-RMI : does 0xC8 (relative w 0 p)
+  pub arm-RMI : does 0xC8 (all 4 4) (plain (relative w 0 p))
   unfolding types placed place
-  arm-RMI = inline-arm (moved (getD w 0 0) (signed (word 0 p 0)) origin)
+  arm-RMI = asked 0xC8 (all 4 4) (plain (relative w 0 p)) refl (inline-arm (moved (getD w 0 0) (signed (word 0 p 0)) origin))
 
-  pub arm-RMB : does 0xD4 (relative w 1 p)
+  pub arm-RMB : does 0xD4 (all 4 4) (plain (relative w 1 p))
   unfolding types placed place
-  arm-RMB = baseline-arm (moved (getD w 1 0) (signed (word 0 p 0)) origin)
+  arm-RMB = asked 0xD4 (all 4 4) (plain (relative w 1 p)) refl (baseline-arm (moved (getD w 1 0) (signed (word 0 p 0)) origin))
 
-  pub arm-BLN : does 0xD8 (line w)
+  pub arm-BLN : does 0xD8 (all 2 2) (plain (line w))
   unfolding types placed place
-  arm-BLN = go (moved origin (getD w 2 0) 0) (moved (getD w 1 0) (getD w 3 0) 0)
+  arm-BLN = asked 0xD8 (all 2 2) (plain (line w)) refl (go (moved origin (getD w 2 0) 0) (moved (getD w 1 0) (getD w 3 0) 0))
     where
       go : (m n : Checked ℕ) → roomed (stateOf w) (m >>= λ i. n >>= λ b. becomes (withAt (stateOf w) (point i b))) ≡ ((m >>= λ i. n >>= λ b. fine (set (set w 0 i) 1 b)) >>= λ l. becomes (stateOf l))
       go (fine i) (fine b) = rw (line-set w twelve i b)
@@ -95,13 +129,13 @@ module _ (widths : List ℕ) (d : Descriptor) (w p : List ℕ) (twelve : length 
 
   -- ---- modal values
 
-  pub arm-SIM : does 0xC0 (setting w 2 p (upTo 0x7FFF) (d .margin))
+  pub arm-SIM : does 0xC0 (all 4 4) (plain (setting w 2 p (upTo 0x7FFF) (d .margin)))
   unfolding types placed place
-  arm-SIM = alike (word 0 p 0 ∈ upTo 0x7FFF or only ones) 24 _ _ _ _ (λ t. rw (margin-set w twelve (default ones (word 0 p 0) (d .margin))))
+  arm-SIM = asked 0xC0 (all 4 4) (plain (setting w 2 p (upTo 0x7FFF) (d .margin))) refl (alike (word 0 p 0 ∈ upTo 0x7FFF or only ones) 24 _ _ _ _ (λ t. rw (margin-set w twelve (default ones (word 0 p 0) (d .margin)))))
 
-  pub arm-SBI : does 0xD0 (setting w 3 p (upTo 0x7FFF) (d .increment))
+  pub arm-SBI : does 0xD0 (all 4 4) (plain (setting w 3 p (upTo 0x7FFF) (d .increment)))
   unfolding types placed place
-  arm-SBI = alike (word 0 p 0 ∈ upTo 0x7FFF or only ones) 24 _ _ _ _ (λ t. rw (increment-set w twelve (default ones (word 0 p 0) (d .increment))))
+  arm-SBI = asked 0xD0 (all 4 4) (plain (setting w 3 p (upTo 0x7FFF) (d .increment))) refl (alike (word 0 p 0 ∈ upTo 0x7FFF or only ones) 24 _ _ _ _ (λ t. rw (increment-set w twelve (default ones (word 0 p 0) (d .increment)))))
 
   -- of a variable space all ones are themselves: absent
   absent : (v : ℕ) → default ones v ones ≡ v
@@ -111,25 +145,25 @@ module _ (widths : List ℕ) (d : Descriptor) (w p : List ℕ) (twelve : length 
       own true e = rw e (sym (eqb-true v ones e))
       own false e = rw e
 
-  pub arm-SVI : does 0xC4 (setting w 8 p (upTo 0x0FFF) ones)
+  pub arm-SVI : does 0xC4 (all 4 4) (plain (setting w 8 p (upTo 0x0FFF) ones))
   unfolding types placed place
-  arm-SVI = alike (word 0 p 0 ∈ upTo 0x0FFF or only ones) 24 _ _ _ _ (λ t. rw (absent (word 0 p 0), space-set w twelve (word 0 p 0)))
+  arm-SVI = asked 0xC4 (all 4 4) (plain (setting w 8 p (upTo 0x0FFF) ones)) refl (alike (word 0 p 0 ∈ upTo 0x0FFF or only ones) 24 _ _ _ _ (λ t. rw (absent (word 0 p 0), space-set w twelve (word 0 p 0))))
 
-  pub arm-STC : does 0x74 (setting w 7 p colours (d .colour))
+  pub arm-STC : does 0x74 (all 4 5) (plain (setting w 7 p colours (d .colour)))
   unfolding types placed place
-  arm-STC = alike (word 0 p 0 ∈ colours or only ones) 24 _ _ _ _ (λ t. rw (colour-set w twelve (default ones (word 0 p 0) (d .colour))))
+  arm-STC = asked 0x74 (all 4 5) (plain (setting w 7 p colours (d .colour))) refl (alike (word 0 p 0 ∈ colours or only ones) 24 _ _ _ _ (λ t. rw (colour-set w twelve (default ones (word 0 p 0) (d .colour)))))
 
-  pub arm-SCFL : does 0xF0 (fontSetting w p (d .font))
+  pub arm-SCFL : does 0xF0 (all 3 3) (plain (fontSetting w p (d .font)))
   unfolding types placed place
-  arm-SCFL = alike (byte 0 p 0 ∈ upTo 0x03 or only 0xFF) 25 _ _ _ _ (λ t. rw (font-set w twelve (default 0xFF (byte 0 p 0) (d .font))))
+  arm-SCFL = asked 0xF0 (all 3 3) (plain (fontSetting w p (d .font))) refl (alike (byte 0 p 0 ∈ upTo 0x03 or only 0xFF) 25 _ _ _ _ (λ t. rw (font-set w twelve (default 0xFF (byte 0 p 0) (d .font)))))
 
-  pub arm-SIA : does 0xC2 (adjusting w p (d .adjustment) (d .direction))
+  pub arm-SIA : does 0xC2 (all 4 5) (plain (adjusting w p (d .adjustment) (d .direction)))
   unfolding types placed place
-  arm-SIA = alike (word 0 p 0 ∈ upTo 0x0FFF or only ones && byte 0 p 2 ∈ upTo 0x01 or only 0xFF) 24 _ _ _ _ (λ t. rw (adjustment-set w twelve (default ones (word 0 p 0) (d .adjustment)) (default 0xFF (byte 0 p 2) (d .direction))))
+  arm-SIA = asked 0xC2 (all 4 5) (plain (adjusting w p (d .adjustment) (d .direction))) refl (alike (word 0 p 0 ∈ upTo 0x0FFF or only ones && byte 0 p 2 ∈ upTo 0x01 or only 0xFF) 24 _ _ _ _ (λ t. rw (adjustment-set w twelve (default ones (word 0 p 0) (d .adjustment)) (default 0xFF (byte 0 p 2) (d .direction)))))
 
-  pub arm-STO : performed widths d (stateOf w) 0xF6 p ≡ (oriented p >>= λ _. becomes (stateOf w))
+  pub arm-STO : does 0xF6 (all 6 6) (oriented p >>= λ _. becomes (stateOf w))
   unfolding types placed place
-  arm-STO = under (word 0 p 0 ∈ only 0x0000 or only ones && word 0 p 2 ∈ only 0x2D00 or only ones) 24 _ _ _ (λ t. refl)
+  arm-STO = asked 0xF6 (all 6 6) (oriented p >>= λ _. becomes (stateOf w)) refl (under (word 0 p 0 ∈ only 0x0000 or only ones && word 0 p 2 ∈ only 0x2D00 or only ones) 24 _ _ _ (λ t. refl))
 
   -- ---- suppressions
 
@@ -137,13 +171,13 @@ module _ (widths : List ℕ) (d : Descriptor) (w p : List ℕ) (twelve : length 
   paired true id = rw (suppression-set w twelve id)
   paired false id = refl
 
-  pub arm-BSU : does 0xF2 (beginning w p)
+  pub arm-BSU : does 0xF2 (all 3 3) (plain (beginning w p))
   unfolding types placed place
-  arm-BSU = after-test (byte 0 p 0 ∈ 0x01 to 0x7F) 24 _ _ _ _ (λ t. paired (eqb (getD w 9 0) 0) (byte 0 p 0))
+  arm-BSU = asked 0xF2 (all 3 3) (plain (beginning w p)) refl (after-test (byte 0 p 0 ∈ 0x01 to 0x7F) 24 _ _ _ _ (λ t. paired (eqb (getD w 9 0) 0) (byte 0 p 0)))
 
-  pub arm-ESU : does 0xF4 (ending w p)
+  pub arm-ESU : does 0xF4 (all 3 3) (plain (ending w p))
   unfolding types placed place
-  arm-ESU = after-test (byte 0 p 0 ∈ 0x01 to 0x7F) 24 _ _ _ _ (λ t. paired (eqb (getD w 9 0) (byte 0 p 0)) 0)
+  arm-ESU = asked 0xF4 (all 3 3) (plain (ending w p)) refl (after-test (byte 0 p 0 ∈ 0x01 to 0x7F) 24 _ _ _ _ (λ t. paired (eqb (getD w 9 0) (byte 0 p 0)) 0))
 
   -- ---- rules and text
 
@@ -151,15 +185,21 @@ module _ (widths : List ℕ) (d : Descriptor) (w p : List ℕ) (twelve : length 
   unfolding placed place
   arm-rule mark = under (word 0 p 0 ∈ upTo 0x7FFF && ruleWidth (word 0xFF p 2) (byte 0xFF p 4)) 24 _ _ _ (λ t. refl)
 
-  pub arm-rules : (code mark : ℕ) → (code ≡ 0xE4) ⊎ (code ≡ 0xE6) → mark ≡ (if eqb code 0xE6 then 1 else 0) → performed widths d (stateOf w) code p ≡ ruled d (stateOf w) mark p
+  pub arm-rules : (code mark : ℕ) → (code ≡ 0xE4) ⊎ (code ≡ 0xE6) → mark ≡ (if eqb code 0xE6 then 1 else 0) → does code (allBut 4 7 5 6) (ruled d (stateOf w) mark p)
   unfolding types
-  arm-rules code mark (inl e) m = rw (m, e) (arm-rule 0)
-  arm-rules code mark (inr e) m = rw (m, e) (arm-rule 1)
+  arm-rules code mark (inl e) m = rw (m, e) (asked 0xE4 (allBut 4 7 5 6) (ruled d (stateOf w) 0 p) refl (arm-rule 0))
+  arm-rules code mark (inr e) m = rw (m, e) (asked 0xE6 (allBut 4 7 5 6) (ruled d (stateOf w) 1 p) refl (arm-rule 1))
 
-  pub arm-RPS : performed widths d (stateOf w) 0xEE p ≡ repeating widths d (stateOf w) p
+  pub arm-RPS : does 0xEE (all 4 255) (repeating widths d (stateOf w) p)
   unfolding types placed place
-  arm-RPS = under (word 0 p 0 ∈ upTo (if ltb 2 (length p) then 0x7FFF else 0)) 24 _ _ _ (λ t. refl)
+  arm-RPS =
+      asked 0xEE (all 4 255) (repeating widths d (stateOf w) p) refl
+      (under (word 0 p 0 ∈ upTo (if ltb 2 (length p) then 0x7FFF else 0)) 24 _ _ _ (λ t. refl))
 
-  pub arm-TRN : performed widths d (stateOf w) 0xDA p ≡ roomed (stateOf w) (placeText widths d (stateOf w) (cycle p 0 (length p)))
+  pub arm-TRN : does 0xDA (all 2 255) (roomed (stateOf w) (placeText widths d (stateOf w) (cycle p 0 (length p))))
   unfolding types placed place
-  arm-TRN = rw (once p)
+  arm-TRN = asked 0xDA (all 2 255) (roomed (stateOf w) (placeText widths d (stateOf w) (cycle p 0 (length p)))) refl (rw (once p))
+
+  pub arm-NOP : does 0xF8 (all 2 255) (becomes (stateOf w))
+  unfolding types placed place
+  arm-NOP = asked 0xF8 (all 2 255) (becomes (stateOf w)) refl refl

@@ -15,7 +15,6 @@ pub mod Inside
 pub mod Kept
 pub mod Lines
 pub mod Outcomes
-pub mod Packed
 pub mod Parts
 pub mod Places
 pub mod Placing
@@ -27,7 +26,6 @@ pub mod Runs
 pub mod Shown
 pub mod Signed
 pub mod Stores
-pub mod Table
 pub mod Texts
 pub mod Turns
 pub mod Verdicts

@@ -1,69 +1,131 @@
--- What the LENGTHs of a type tell of a sequence: no row of the table has 0 as its greatest LENGTH, so that 0 says that the type is unknown.
+-- The code's table is the rule book's; and what a row tells of a sequence: of one whose body is whole, of one whose body is cut, and of a type of no row.
 -- Assumes nothing.
-use Prim.Native.Nat.{ℕ, zero, suc, _+_, _/_, _%_, _≤_}
+use Prim.Native.Nat.{ℕ, zero, suc, _+_, _-_, _<_, _≤_}
 use mathlib.Core.Path.{_≡_, refl, sym, _∙_, ap}
-use mathlib.Core.Bool.{Bool, true, false, _||_, true≢false}
+use mathlib.Core.Bool.{Bool, true, false, _&&_}
 use mathlib.Core.List.{List, [], _∷_}
+use native.Mathlib.Numerals.{add-one}
 use native.Mathlib.Omega.{arith}
-use lib.ListN.{length, getD}
+use lib.ListN.{length, getD, drop, length-drop, drop-of-length-le}
+use lib.Seq.{length-take-le, drop-cons}
 use lib.Dec.{leb, eqb}
-use borrow.Author.Tests.{le-leb, leb-true, ne-eqb}
+use borrow.Author.Tests.{le-leb, lt-leb, leb-true, eq-eqb, ne-eqb, eqb-true}
 use Rattle.part.specs.Numbers.{if_then_else_}
 use Rattle.part.specs.Checks.{Checked, fine, fault, refuse, require, _>>=_, _>>_}
-use Rattle.part.specs.Types.{function, chaining, Row, types, rowOf, valuesOf, _takes_}
+use Rattle.part.specs.Elements.{Element}
+use Rattle.part.specs.Types.{function, chaining, Lengths, Row, types, rowOf, _takes_}
 use Rattle.part.specs.Reading.{Found, found, between, sequence}
-use Rattle.part.specs.Code.{verdict, lengthsIn, lengthsOf, fitting}
-use Rattle.part.specs.declared.types.Lengths.{Lengths}
-use Rattle.part.proofs.Checks.{first-of}
+use Rattle.part.specs.Code.{verdict, lengthsIn, fitted, cutShort}
+use Rattle.part.specs.declared.types.TypeRow.{TypeRow}
+use Rattle.part.proofs.Checks.{first-of, second-of}
 
-abbrev zeroIn : List Row → Bool
-zeroIn [] = false
-zeroIn (r ∷ rs) = eqb (r .lengths .greatest) 0 || zeroIn rs
+-- ---- the code's table and the rule book's: the same TYPEs and LENGTHs, row by row
 
-none : (rs : List Row) (code : ℕ) → zeroIn rs ≡ false → lengthsIn (rowOf rs code) .greatest ≡ 0 → rowOf rs code ≡ refuse 23
-none [] code z h = refl
-none (r ∷ rs) code z h =
-    (elim (eqb (r .function) code) as (λ t. lengthsIn (if t then fine r else rowOf rs code) .greatest ≡ 0 → (if t then fine r else rowOf rs code) ≡ refuse 23)
-    [ true ↦ λ e. absurd (true≢false (rw e at z)) | false ↦ none rs code (neither (eqb (r .lengths .greatest) 0) (zeroIn rs) z) ]) h
+abbrev sameRow : TypeRow → Row → Bool
+sameRow c r =
+    eqb (c .0) (r .function) && (eqb (c .1 .least) (r .lengths .least) && (eqb (c .1 .greatest) (r .lengths .greatest)
+    && (eqb (c .1 .«hole_from») (r .lengths .holeFrom) && eqb (c .1 .«hole_to») (r .lengths .holeTo))))
+
+abbrev pub agree : List TypeRow → List Row → Bool
+agree [] [] = true
+agree [] (r ∷ rs) = false
+agree (c ∷ cs) [] = false
+agree (c ∷ cs) (r ∷ rs) = sameRow c r && agree cs rs
+
+same-code : (c : TypeRow) (r : Row) → sameRow c r ≡ true → c .0 ≡ r .function
+same-code c r e = eqb-true _ _ (first-of (eqb (c .0) (r .function)) _ e)
+
+same-takes : (c : TypeRow) (r : Row) (n : ℕ) → sameRow c r ≡ true → (lengthsIn c takes n) ≡ (r .lengths takes n)
+same-takes c r n e =
+    let a = second-of (eqb (c .0) (r .function)) _ e in
+    let b = second-of (eqb (c .1 .least) (r .lengths .least)) _ a in
+    let d = second-of (eqb (c .1 .greatest) (r .lengths .greatest)) _ b in
+    let least = eqb-true (c .1 .least) (r .lengths .least) (first-of _ _ a) in
+    let greatest = eqb-true (c .1 .greatest) (r .lengths .greatest) (first-of _ _ b) in
+    let first = eqb-true (c .1 .«hole_from») (r .lengths .holeFrom) (first-of _ _ d) in
+    let final = eqb-true (c .1 .«hole_to») (r .lengths .holeTo) (second-of (eqb (c .1 .«hole_from») (r .lengths .holeFrom)) _ d) in
+    rw (least, greatest, first, final)
+
+-- a row of the code's table, asked for a sequence whose body is cut; and the table, from its first row on
+abbrev pub cutIf : Bool → Checked Unit
+cutIf t = require t 22 >> refuse 20
+
+abbrev pub cutRow : TypeRow → ℕ → Checked Unit
+cutRow c n = cutIf (lengthsIn c takes n)
+
+unfoldable pub cutBy : List TypeRow → ℕ → ℕ → Checked Unit
+cutBy [] code n = refuse 23
+cutBy (c ∷ cs) code n = if eqb (c .0) code then cutRow c n else cutBy cs code n
+
+tables : (cs : List TypeRow) (rs : List Row) (code n : ℕ) → agree cs rs ≡ true → cutBy cs code n ≡ (rowOf rs code >>= λ r. require (r .lengths takes n) 22 >> refuse 20)
+unfolding cutBy
+tables [] [] code n e = refl
+tables [] (r ∷ rs) code n e = cc
+tables (c ∷ cs) [] code n e = cc
+tables (c ∷ cs) (r ∷ rs) code n e =
+    let one = first-of (sameRow c r) (agree cs rs) e in
+    rw (cutBy, same-code c r one)
+    (elim (eqb (r .function) code) as (λ t. (if t then cutRow c n else cutBy cs code n) ≡ ((if t then fine r else rowOf rs code) >>= λ r. require (r .lengths takes n) 22 >> refuse 20))
+    [ true ↦ ap cutIf (same-takes c r n one) | false ↦ tables cs rs code n (second-of (sameRow c r) (agree cs rs) e) ])
+
+-- looking for a row: those before k are of other types
+pub record Seeking (table : List TypeRow) (code n k : ℕ) : Type 0 where
+  pub within : k ≤ 19
+  pub many : length table ≡ 19
+  pub same : cutBy (drop k table) code n ≡ cutShort code n
+
+pub seek : (table : List TypeRow) (code n : ℕ) → length table ≡ 19 → agree table types ≡ true → Seeking table code n 0
+seek table code n many e = record { within = omega arith; many = many; same = tables table types code n e }
+
+module _ {table : List TypeRow} {code n k : ℕ} (s : Seeking table code n k) where
+  here : (row : TypeRow) → k < 19 → drop k table ≡ getD table k row ∷ drop (suc k) table
+  here row h = drop-cons table k row (omega (arith, s .many))
+
+  pub seek-found : (row : TypeRow) → k < 19 → getD table k row .0 ≡ code → cutRow (getD table k row) n ≡ cutShort code n
+  unfolding cutBy
+  seek-found row h e =
+      let one : cutBy (drop k table) code n ≡ cutRow (getD table k row) n = rw (here row h, cutBy, eq-eqb (getD table k row .0) code e) in
+      sym one ∙ s .same
+
+  pub seek-on : (row : TypeRow) → k < 19 → (getD table k row .0 ≡ code → ⊥) → Seeking table code n (k + 1)
+  unfolding cutBy
+  seek-on row h e =
+      let more : cutBy (drop k table) code n ≡ cutBy (drop (suc k) table) code n = rw (here row h, cutBy, ne-eqb (getD table k row .0) code e) in
+      record { within = omega arith; many = s .many; same = rw add-one (sym more ∙ s .same) }
+
+  pub seek-none : 19 ≤ k → refuse 23 ≡ cutShort code n
+  unfolding cutBy
+  seek-none h =
+      let none = drop-of-length-le table {i = k} (omega (arith, s .many)) in
+      rw none at (s .same)
+
+-- ---- a sequence whose LENGTH and TYPE are there
+
+-- a row and its LENGTH first, then the body, then the values: where the body is whole it need not be asked
+module _ (p : List ℕ) (g : Element → Checked Found) where
+  regrouped : (q : Checked Row) (t : Bool) (n m : ℕ) → t ≡ true → m ≡ n
+      → (q >>= λ r. require (r .lengths takes n) 22 >> (require t 20 >> (r .values p >>= g))) ≡ ((q >>= λ r. require (r .lengths takes m) 22 >> r .values p) >>= g)
+  regrouped (fault code at) t n m h e = refl
+  regrouped (fine r) t n m h e = rw (h, e) (go (r .lengths takes n))
+    where
+      go : (u : Bool) → (require u 22 >> (r .values p >>= g)) ≡ ((require u 22 >> r .values p) >>= g)
+      go true = refl
+      go false = refl
+
+-- a refusal told of nothing is a refusal told of a sequence
+told : (k : ℕ) (x : Found) (code at : ℕ) → verdict k (tt {0}) ≡ fault code at → (verdict k x ≡ fault code at) × (0 < k)
+told zero x code at e = absurd (let z : _≡_ {A = ℕ} 0 1 = cc in omega arith)
+told (suc k) x code at e = (cc, omega arith)
+
+-- where the body is cut, what comes before that, or 20
+stops : (rest : Row → Checked Found) (q : Checked Row) (t : Bool) (n k : ℕ) (x : Found) → t ≡ false → verdict k (tt {0}) ≡ (q >>= λ r. require (r .lengths takes n) 22 >> refuse 20)
+    → (verdict k x ≡ (q >>= λ r. require (r .lengths takes n) 22 >> (require t 20 >> rest r))) × (0 < k)
+stops rest (fault code at) t n k x h e = told k x code at e
+stops rest (fine r) t n k x h e = rw h (go (r .lengths takes n) e)
   where
-    neither : (a b : Bool) → (a || b) ≡ false → b ≡ false
-    neither true b e = absurd (true≢false e)
-    neither false b e = e
-
-pub unknown : (code : ℕ) → lengthsOf code .greatest ≡ 0 → rowOf types code ≡ refuse 23
-unfolding types
-unknown code h = none types code refl h
-
-pub known : (m : Checked Row) → (lengthsIn m .greatest ≡ 0 → ⊥) → (r : Row) × (m ≡ fine r)
-known (fine r) h = (r, refl)
-known (fault code at) h = absurd (h refl)
-
--- ---- a sequence whose LENGTH and TYPE are there, by their tests
-
-module _ (q : Row → Bool) (rest : Row → Checked Found) where
-  abbrev tests : Bool → Checked Row → Checked Unit
-  tests t m = require t 22 >> (m >>= λ r. require (q r) 22)
-
-  abbrev whole : Bool → Checked Row → Checked Found
-  whole t m = require t 22 >> (m >>= λ r. require (q r) 22 >> rest r)
-
-  stops : (t : Bool) (m : Checked Row) (code j : ℕ) → fault code j ≡ tests t m → fault code j ≡ whole t m
-  stops false m code j e = cc
-  stops true (fault c k) code j e = cc
-  stops true (fine r) code j e = stop (q r) e
-    where
-      stop : (t : Bool) → fault code j ≡ require t 22 → fault code j ≡ (require t 22 >> rest r)
-      stop true s = absurd (let z : _≡_ {A = ℕ} 0 1 = cc in omega arith)
-      stop false s = cc
-
-  goes : (t : Bool) (m : Checked Row) → fine tt ≡ tests t m → (r : Row) × (m ≡ fine r) × (whole t m ≡ rest r)
-  goes false m e = absurd (let z : _≡_ {A = ℕ} 0 1 = cc in omega arith)
-  goes true (fault c k) e = absurd (let z : _≡_ {A = ℕ} 0 1 = cc in omega arith)
-  goes true (fine r) e = (r, refl, go (q r) e)
-    where
-      go : (t : Bool) → fine tt ≡ require t 22 → (require t 22 >> rest r) ≡ rest r
-      go true s = refl
-      go false s = absurd (let z : _≡_ {A = ℕ} 0 1 = cc in omega arith)
+    go : (u : Bool) → verdict k (tt {0}) ≡ (require u 22 >> refuse 20) → (verdict k x ≡ (require u 22 >> refuse 20)) × (0 < k)
+    go true s = told k x 20 0 s
+    go false s = told k x 22 0 s
 
 module _ (at : ℕ) (bytes : List ℕ) (began : at + 2 ≤ length bytes) where
   abbrev n : ℕ
@@ -72,53 +134,35 @@ module _ (at : ℕ) (bytes : List ℕ) (began : at + 2 ≤ length bytes) where
   abbrev type : ℕ
   type = getD bytes (at + 1) 0
 
-  abbrev rest : Row → Checked Found
-  rest r = do
-    require (leb (at + n) (length bytes)) 20
-    v ← r .values (between bytes (at + 2) (at + n))
-    found v (at + n) (chaining type)
+  abbrev body : List ℕ
+  body = between bytes (at + 2) (at + n)
 
-  pub misfitted : (k : ℕ) (x : Found) → (k ≡ 0 → ⊥) → verdict k tt ≡ fitting (function type) n → verdict k x ≡ sequence at bytes
+  pub too-short : n < 2 → sequence at bytes ≡ refuse 22
   unfolding sequence
-  misfitted zero x h e = absurd (h refl)
-  misfitted (suc k) x h e = rw (le-leb (at + 2) (length bytes) began) (stops (λ r. r .lengths takes n) rest (leb 2 n) (rowOf types (function type)) (suc k % 256) (suc k / 256) e)
+  too-short h = rw (le-leb (at + 2) (length bytes) began, lt-leb 2 n h)
 
-  -- LENGTH counts itself and TYPE
-  pub counted : (k : ℕ) → k ≡ 0 → verdict k tt ≡ fitting (function type) n → 2 ≤ n
-  counted k z e =
-      (elim (leb 2 n) as (λ t. leb 2 n ≡ t → 2 ≤ n)
-      [ true ↦ leb-true 2 n | false ↦ λ s. let short : fine tt ≡ fault 22 0 = rw (z, s) at e in absurd (let z : _≡_ {A = ℕ} 0 1 = cc in omega arith) ]) refl
-
-  -- LENGTH is the type's
-  pub taken : (k : ℕ) → k ≡ 0 → verdict k tt ≡ fitting (function type) n → (lengthsOf (function type) takes n) ≡ true
-  taken k z e = shown (leb 2 n) (rowOf types (function type)) (rw z at e)
-    where
-      passed : (t : Bool) → fine tt ≡ require t 22 → t ≡ true
-      passed true s = refl
-      passed false s = absurd (let z : _≡_ {A = ℕ} 0 1 = cc in omega arith)
-
-      shown : (t : Bool) (m : Checked Row) → fine tt ≡ (require t 22 >> (m >>= λ r. require (r .lengths takes n) 22)) → (lengthsIn m takes n) ≡ true
-      shown false m s = absurd (let z : _≡_ {A = ℕ} 0 1 = cc in omega arith)
-      shown true (fault c j) s = absurd (let z : _≡_ {A = ℕ} 0 1 = cc in omega arith)
-      shown true (fine r) s = passed (r .lengths takes n) s
-
-  pub fitted : (k : ℕ) → k ≡ 0 → verdict k tt ≡ fitting (function type) n → sequence at bytes ≡ do
-    require (leb (at + n) (length bytes)) 20
-    v ← valuesOf (function type) (between bytes (at + 2) (at + n))
-    found v (at + n) (chaining type)
+  pub whole : 2 ≤ n → at + n ≤ length bytes → sequence at bytes ≡ (fitted (function type) body >>= λ e. found e (at + n) (chaining type))
   unfolding sequence
-  fitted k z e =
-      let g = goes (λ r. r .lengths takes n) rest (leb 2 n) (rowOf types (function type)) (rw z at e) in
-      rw (le-leb (at + 2) (length bytes) began)
-      (g .2 ∙ ap (λ (m : Checked Row). require (leb (at + n) (length bytes)) 20 >> ((m >>= λ r. r .values (between bytes (at + 2) (at + n))) >>= λ v. found v (at + n) (chaining type))) (sym (g .1)))
+  whole long h =
+      let size = length-take-le (at + n - (at + 2)) (drop (at + 2) bytes) (omega (arith, length-drop (at + 2) bytes)) in
+      rw (le-leb (at + 2) (length bytes) began, le-leb 2 n long)
+      (regrouped body (λ e. found e (at + n) (chaining type)) (rowOf types (function type)) (leb (at + n) (length bytes)) n (2 + length body) (le-leb (at + n) (length bytes) h) (omega (arith, size)))
+
+  pub body-cut : 2 ≤ n → length bytes < at + n → (k : ℕ) (x : Found) → verdict k (tt {0}) ≡ cutShort (function type) n → (verdict k x ≡ sequence at bytes) × (0 < k)
+  unfolding sequence
+  body-cut long h k x e =
+      rw (le-leb (at + 2) (length bytes) began, le-leb 2 n long)
+      (stops (λ r. r .values body >>= λ e. found e (at + n) (chaining type)) (rowOf types (function type)) (leb (at + n) (length bytes)) n k x (lt-leb (at + n) (length bytes) h) e)
+
+-- ---- parameters
 
 -- no LENGTH is below the least
 least-taken : (ns : Lengths) (n : ℕ) → (ns takes n) ≡ true → ns .least ≤ n
 least-taken ns n e = leb-true _ _ (first-of _ _ (first-of _ _ e))
 
--- a type whose LENGTHs begin with 4 has two bytes of parameters
-pub two-there : (code key n : ℕ) → code ≡ key → lengthsOf key .least ≡ 4 → (lengthsOf code takes (2 + n)) ≡ true → 2 ≤ n
-two-there code key n e four t = omega (arith, least-taken (lengthsOf code) (2 + n) t, ap (λ k. lengthsOf k .least) e ∙ four)
+-- a row whose LENGTHs begin with 4 has two bytes of parameters
+pub two-there : (row : TypeRow) (n : ℕ) → 4 ≤ row .1 .least → (lengthsIn row takes (2 + n)) ≡ true → 2 ≤ n
+two-there row n four t = omega (arith, least-taken (lengthsIn row) (2 + n) t)
 
 -- ---- a type of no row
 

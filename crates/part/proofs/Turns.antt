@@ -13,13 +13,12 @@ use Rattle.part.specs.Checks.{Checked, fine, fault, startingAt, _>>=_}
 use Rattle.part.specs.States.{withChain}
 use Rattle.part.specs.Ranges.{hold, descriptorFields}
 use Rattle.part.specs.Elements.{Element, Text}
-use Rattle.part.specs.Types.{valuesOf}
 use Rattle.part.specs.Reading.{Found, Piece, piece, found, element, cutFrom, cut}
 use Rattle.part.specs.Records.{Item, allBytes}
 use Rattle.part.specs.Text.{cycle}
 use Rattle.part.specs.Place.{Effect, effect, place, placeText}
 use Rattle.part.specs.Part.{roomed, placed, passed, passedBy, elements, elementsBy}
-use Rattle.part.specs.Code.{verdict, stateOf, stateAfter, inked, performed, Ready, Completed, Ran}
+use Rattle.part.specs.Code.{verdict, fitted, stateOf, stateAfter, inked, performed, Ready, Completed, Ran}
 use Rattle.part.specs.declared.shapes.Descriptor.{Descriptor}
 use Rattle.part.specs.declared.shapes.State.{State}
 use Rattle.part.proofs.Bounds.{used-fits}
@@ -72,13 +71,13 @@ module _ (widths : List ℕ) (d : Descriptor) (s : State) (chain : ℕ) (rest : 
   unfolding passedBy
   run-step size e = record { reads = λ g h. (_, sym e, refl, refl); leads = rw (← e) refl }
 
-  pub sequence-step : (function size chains : ℕ) (p : List ℕ) → (valuesOf function p >>= λ e. found e size chains) ≡ element chain rest → Step widths d s chain rest size chains (performed widths d s function p)
+  pub sequence-step : (function size chains : ℕ) (p : List ℕ) → (fitted function p >>= λ e. found e size chains) ≡ element chain rest → Step widths d s chain rest size chains (performed widths d s function p)
   unfolding passedBy
-  sequence-step function size chains p h = record { reads = reads; leads = rw (← h) (leads (valuesOf function p)) }
+  sequence-step function size chains p h = record { reads = reads; leads = rw (← h) (leads (fitted function p)) }
     where
       reads : (g : Effect) → performed widths d s function p ≡ fine g → (f : Found) × (element chain rest ≡ fine f) × (f .size ≡ size) × (f .chains ≡ chains)
       reads g q =
-          let v = went-on (valuesOf function p) (placed widths d s) q in
+          let v = went-on (fitted function p) (placed widths d s) q in
           (_, sym (rw (v .1) at h), refl, refl)
 
       leads : (m : Checked Element) → ((m >>= λ e. found e size chains) >>= passed widths d s) ≡ ((m >>= placed widths d s) >>= λ done. effect (withChain (done .state) chains) (done .items))

@@ -1,5 +1,5 @@
 -- How the code's numbers stand for the rule book's values: what the contracts inside this crate cite, and no rule.
-use Prim.Native.Nat.{ℕ, zero, suc, _+_, _-_, _*_, _/_, _%_, _^_, _<_, _≤_}
+use Prim.Native.Nat.{ℕ, zero, suc, _+_, _/_, _%_, _<_, _≤_}
 use mathlib.Core.Path.{_≡_}
 use mathlib.Core.Bool.{Bool, true, not, _&&_, _||_}
 use mathlib.Core.List.{List, [], _∷_, _++_}
@@ -9,11 +9,11 @@ use lib.ListN.{length, take, drop, getD}
 use lib.Seq.{sets}
 use lib.Dec.{ltb, leb, eqb}
 use Rattle.part.specs.Numbers.{if_then_else_, origin, ones, byte, word, little}
-use Rattle.part.specs.Checks.{Checked, fine, fault, require, _>>=_, _>>_}
+use Rattle.part.specs.Checks.{Checked, fine, fault, refuse, require, _>>=_, _>>_}
 use Rattle.part.specs.States.{point, state, withInline}
 use Rattle.part.specs.Ranges.{upTo, _∈_, hold, descriptorFields, stateFields}
-use Rattle.part.specs.Elements.{Text, ruleWidth}
-use Rattle.part.specs.Types.{Row, types, rowOf, valuesOf, all, _takes_}
+use Rattle.part.specs.Elements.{Element, Text, ruleWidth}
+use Rattle.part.specs.Types.{Lengths, types, rowOf, allBut, _takes_}
 use Rattle.part.specs.Reading.{Found, found, between}
 use Rattle.part.specs.Records.{Item, allBytes}
 use Rattle.part.specs.Presenting.{default, moved, hides}
@@ -22,7 +22,7 @@ use Rattle.part.specs.Place.{Effect, effect, shownText, placeText, place
 use Rattle.part.specs.Part.{roomed, placed}
 use Rattle.part.specs.declared.shapes.Descriptor.{Descriptor}
 use Rattle.part.specs.declared.shapes.State.{State}
-use Rattle.part.specs.declared.types.Lengths.{Lengths}
+use Rattle.part.specs.declared.types.TypeRow.{TypeRow}
 use Rattle.part.specs.declared.reader.Read.{Read}
 use Rattle.part.specs.declared.reader.Read.the-variants.{Run, Sequence, Refused}
 use Rattle.part.specs.declared.record.Head.{Head}
@@ -39,50 +39,39 @@ verdict (suc n) a = fault (suc n % 256) (suc n / 256)
 
 -- ---- the table of types
 
--- the LENGTHs of a row; none for an unknown type
-abbrev pub lengthsIn : Checked Row → Lengths
-lengthsIn (fine r) = r .lengths
-lengthsIn (fault code at) = all 0 0
+-- the LENGTHs of a row of the code's table
+abbrev pub lengthsIn : TypeRow → Lengths
+lengthsIn row = allBut (row .1 .least) (row .1 .greatest) (row .1 .«hole_from») (row .1 .«hole_to»)
 
-abbrev pub lengthsOf : ℕ → Lengths
-lengthsOf code = lengthsIn (rowOf types code)
+-- the row takes the LENGTH of these parameters, with itself and TYPE two bytes more; and then something else
+abbrev pub sized : {A : Type 0} → TypeRow → List ℕ → Checked A → Checked A
+sized row p m = require (lengthsIn row takes (2 + length p)) 22 >> m
 
--- a row of the code's table: its greatest and its least LENGTH, a byte each; below them a bit for each LENGTH up to 7 that it takes, and the bit of 8 for all above
-abbrev pub bitOf : ℕ → ℕ → Bool
-bitOf row n = eqb (row / 2 ^ (if ltb n 8 then n else 8) % 2) 1
+-- a sequence whose body is whole: its row, its LENGTH, its values
+abbrev pub fitted : ℕ → List ℕ → Checked Element
+fitted code p = do
+  row ← rowOf types code
+  require (row .lengths takes (2 + length p)) 22
+  row .values p
 
-abbrev pub bitsUpTo : ℕ → Lengths → ℕ
-bitsUpTo zero ns = 0
-bitsUpTo (suc k) ns = bitsUpTo k ns + (if ns takes k then 2 ^ k else 0)
-
-abbrev pub packed : Lengths → ℕ
-packed ns = bitsUpTo 9 ns + ns .least * 65536 + ns .greatest * 16777216
-
-abbrev pub listed : {A : Type 0} → (ℕ → A) → ℕ → List A
-listed rule zero = []
-listed rule (suc n) = rule 0 ∷ listed (λ k. rule (suc k)) n
-
-unfoldable pub rows : List ℕ
-rows = listed (λ half. packed (lengthsOf (half * 2))) 128
-
--- the three tests of a TYPE and its LENGTH, in their order
-abbrev pub fitting : ℕ → ℕ → Checked Unit
-fitting code n = do
-  require (leb 2 n) 22
+-- a sequence whose body is cut: what is refused before that
+abbrev pub cutShort : ℕ → ℕ → Checked Unit
+cutShort code n = do
   row ← rowOf types code
   require (row .lengths takes n) 22
+  refuse 20
 
 -- ---- the element reader
 
 abbrev pub foundBy : List ℕ → Read → Checked Found
 foundBy bytes (Run size) = found (Text (take size bytes)) size 0
-foundBy bytes (Sequence function from size chains) = valuesOf function (between bytes from size) >>= λ e. found e size chains
+foundBy bytes (Sequence function from size chains) = fitted function (between bytes from size) >>= λ e. found e size chains
 foundBy bytes (Refused n) = verdict n (record { element = Text []; size = 0; chains = 0 })
 
--- it ends within so many bytes, and has one at least; a sequence has a LENGTH of its type
+-- it ends within so many bytes, and has one at least
 abbrev pub Within : ℕ → Read → Type 0
 Within most (Run size) = (0 < size) × (size ≤ most)
-Within most (Sequence function from size chains) = (from ≤ size) × ((0 < size) × ((size ≤ most) × ((chains ≤ 1) × ((lengthsOf function takes (2 + (size - from))) ≡ true))))
+Within most (Sequence function from size chains) = (from ≤ size) × ((0 < size) × ((size ≤ most) × (chains ≤ 1)))
 Within most (Refused n) = 0 < n
 
 -- ---- the working state: I, B, margin, increment, adjustment, direction, font, colour, variable space, suppression, chain, bytes used
@@ -144,7 +133,7 @@ repeating widths d s p = do
 
 -- any sequence
 abbrev pub performed : List ℕ → Descriptor → State → ℕ → List ℕ → Checked Effect
-performed widths d s function p = valuesOf function p >>= placed widths d s
+performed widths d s function p = fitted function p >>= placed widths d s
 
 -- ---- text: what does not change within an element is in a `Line`
 

@@ -7,7 +7,6 @@ use Rattle.part.specs.Numbers.{if_then_else_, ones}
 use Rattle.part.specs.Checks.{Checked, fine, refuse, _>>=_}
 use Rattle.part.specs.Ranges.{upTo, only, colours, everything, _to_, _or_, _∈_}
 use Rattle.part.specs.Elements.{Element, AbsoluteMoveInline, AbsoluteMoveBaseline, RelativeMoveInline, RelativeMoveBaseline, BeginLine, SetInlineMargin, SetBaselineIncrement, SetVariableSpace, SetTextColor, BeginSuppression, EndSuppression, NoOperation, number, adjustment, font, orientation, suppression, drawnRule, transparent, repeatedString, ignored}
-use Rattle.part.specs.declared.types.Lengths.{Lengths}
 
 -- The low bit of TYPE chains the next sequence and is otherwise ignored.
 abbrev pub function : ℕ → ℕ
@@ -16,16 +15,23 @@ function type = type / 2 * 2
 abbrev pub chaining : ℕ → ℕ
 chaining type = type % 2
 
+-- the LENGTHs of a type: the least, the greatest, and the first and the last of a hole between them
+pub record Lengths : Type 0 where
+  pub least : ℕ
+  pub greatest : ℕ
+  pub holeFrom : ℕ
+  pub holeTo : ℕ
+
 -- all LENGTHs from the least to the greatest; or all of them but those of a hole
 abbrev pub all : ℕ → ℕ → Lengths
-all least greatest = record { least = least; greatest = greatest; holefrom = 0; holeto = 0 }
+all least greatest = record { least = least; greatest = greatest; holeFrom = 0; holeTo = 0 }
 
 abbrev pub allBut : ℕ → ℕ → ℕ → ℕ → Lengths
-allBut least greatest first final = record { least = least; greatest = greatest; holefrom = first; holeto = final }
+allBut least greatest first final = record { least = least; greatest = greatest; holeFrom = first; holeTo = final }
 
 infix 40 _takes_
 abbrev pub _takes_ : Lengths → ℕ → Bool
-ns takes n = n ∈ ns .least to ns .greatest && not (n ∈ ns .holefrom to ns .holeto)
+ns takes n = n ∈ ns .least to ns .greatest && not (n ∈ ns .holeFrom to ns .holeTo)
 
 pub record Row : Type 0 where
   pub function : ℕ

@@ -14,7 +14,6 @@ use super::shapes::Descriptor;
 use super::shapes::Interpreted;
 use super::shapes::Point;
 use super::shapes::State;
-use super::types::TYPES;
 
 // The tests before any element: 10, 12, 15, 19.
 fn admit(part: usize, widths: usize, area: usize, d: Descriptor, s: State) -> u32
@@ -99,8 +98,7 @@ pub fn interpret(
         s.used,
     ];
     let mut scratch = [0u8; 4096];
-    let types = TYPES;
-    let r = run(&types, part, widths, &mut scratch, d, &mut w);
+    let r = run(part, widths, &mut scratch, d, &mut w);
     if r.fault != 0 {
         let at = r.at as u32;
         return refusal(r.fault % 256, at + r.fault / 256, s);

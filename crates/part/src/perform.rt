@@ -1,12 +1,12 @@
-// A control sequence performed: its values tested, and its effect on the working state and the records.
+// A control sequence performed: its LENGTH and its values tested, and its effect on the working state and the records.
 ghost use mathlib.Core.Path.{_≡_};
-ghost use mathlib.Core.Bool.{true};
-ghost use Prim.Native.Nat.{_+_, _<_};
+ghost use Prim.Native.Nat.{_≤_, _<_};
 ghost use lib.Dec.{eqb};
 ghost use lib.ListN.{length};
 ghost use Rattle.part.specs.Numbers.{if_then_else_};
-ghost use Rattle.part.specs.Types.{_takes_};
-ghost use Rattle.part.specs.Code.{lengthsOf, Does, repeating, performed, Ready};
+ghost use Rattle.part.specs.Ranges.{upTo, colours};
+ghost use Rattle.part.specs.Working.{absolute, relative, setting, fontSetting, adjusting, beginning, ending};
+ghost use Rattle.part.specs.Code.{verdict, sized, Does, ruled, repeating, performed, Ready};
 use super::moves::absolute_move;
 use super::moves::begin_line;
 use super::moves::relative_move;
@@ -22,6 +22,26 @@ use super::settings::set_font;
 use super::settings::set_number;
 use super::shapes::Descriptor;
 use super::show::show_text;
+use super::types::AMB;
+use super::types::AMI;
+use super::types::BLN;
+use super::types::BSU;
+use super::types::DIR;
+use super::types::ESU;
+use super::types::NOP;
+use super::types::RMB;
+use super::types::RMI;
+use super::types::RPS;
+use super::types::SBI;
+use super::types::SCFL;
+use super::types::SIA;
+use super::types::SIM;
+use super::types::STC;
+use super::types::STO;
+use super::types::SVI;
+use super::types::TRN;
+use super::types::TypeRow;
+use super::types::suits;
 use super::values::word_at;
 use super::working::B;
 use super::working::I;
@@ -29,11 +49,120 @@ use super::working::INCREMENT;
 use super::working::MARGIN;
 use super::working::SPACE;
 
-// RPS: a count, then the text that begins again at its end.
-fn repeat_string(p: &[u8], widths: &[u16], area: &mut [u8], d: Descriptor, w: &mut [u32]) -> u32
-    requires { ⌜ Ready (now widths) (now area) (now w) × (length (now p) < 65536) ⌝ }
-    ensures { λ r. ⌜ Does (λ s. repeating (now (widths .entry)) d s (now (p .entry))) r w area ⌝ }
+// AMI, AMB. This function and the next ones ask the row first: 22 where it doesn't take the LENGTH.
+fn try_absolute(row: TypeRow, p: &[u8], w: &mut [u32], axis: usize) -> u32
+    requires { ⌜ (axis < length (now w)) × (4 ≤ row .1 .least) ⌝ }
+    ensures { λ r. ⌜ verdict r (now (w .exit)) ≡ sized row (now (p .entry)) (absolute (now (w .entry)) axis (now (p .entry))) ⌝ }
 {
+    if !suits(row, p) {
+        return 22;
+    }
+    absolute_move(w, axis, p)
+}
+
+// RMI, RMB.
+fn try_relative(row: TypeRow, p: &[u8], w: &mut [u32], axis: usize) -> u32
+    requires { ⌜ (axis < length (now w)) × (4 ≤ row .1 .least) ⌝ }
+    ensures { λ r. ⌜ verdict r (now (w .exit)) ≡ sized row (now (p .entry)) (relative (now (w .entry)) axis (now (p .entry))) ⌝ }
+{
+    if !suits(row, p) {
+        return 22;
+    }
+    relative_move(w, axis, p)
+}
+
+// SIM, SBI, SVI.
+fn try_number(row: TypeRow, p: &[u8], w: &mut [u32], at: usize, most: u32, other: u32) -> u32
+    requires { ⌜ (at < length (now w)) × (4 ≤ row .1 .least) ⌝ }
+    ensures { λ r. ⌜ verdict r (now (w .exit)) ≡ sized row (now (p .entry)) (setting (now (w .entry)) at (now (p .entry)) (upTo most) other) ⌝ }
+{
+    if !suits(row, p) {
+        return 22;
+    }
+    set_number(w, at, p, most, other)
+}
+
+// STC.
+fn try_color(row: TypeRow, p: &[u8], w: &mut [u32], other: u32) -> u32
+    requires { ⌜ (length (now w) ≡ 12) × (4 ≤ row .1 .least) ⌝ }
+    ensures { λ r. ⌜ verdict r (now (w .exit)) ≡ sized row (now (p .entry)) (setting (now (w .entry)) 7 (now (p .entry)) colours other) ⌝ }
+{
+    if !suits(row, p) {
+        return 22;
+    }
+    set_color(w, p, other)
+}
+
+// SIA.
+fn try_adjustment(row: TypeRow, p: &[u8], w: &mut [u32], amount: u32, direction: u32) -> u32
+    requires { ⌜ length (now w) ≡ 12 ⌝ }
+    ensures { λ r. ⌜ verdict r (now (w .exit)) ≡ sized row (now (p .entry)) (adjusting (now (w .entry)) (now (p .entry)) amount direction) ⌝ }
+{
+    if !suits(row, p) {
+        return 22;
+    }
+    set_adjustment(w, p, amount, direction)
+}
+
+// SCFL.
+fn try_font(row: TypeRow, p: &[u8], w: &mut [u32], other: u32) -> u32
+    requires { ⌜ length (now w) ≡ 12 ⌝ }
+    ensures { λ r. ⌜ verdict r (now (w .exit)) ≡ sized row (now (p .entry)) (fontSetting (now (w .entry)) (now (p .entry)) other) ⌝ }
+{
+    if !suits(row, p) {
+        return 22;
+    }
+    set_font(w, p, other)
+}
+
+// BSU.
+fn try_begin(row: TypeRow, p: &[u8], w: &mut [u32]) -> u32
+    requires { ⌜ length (now w) ≡ 12 ⌝ }
+    ensures { λ r. ⌜ verdict r (now (w .exit)) ≡ sized row (now (p .entry)) (beginning (now (w .entry)) (now (p .entry))) ⌝ }
+{
+    if !suits(row, p) {
+        return 22;
+    }
+    begin_suppression(w, p)
+}
+
+// ESU.
+fn try_end(row: TypeRow, p: &[u8], w: &mut [u32]) -> u32
+    requires { ⌜ length (now w) ≡ 12 ⌝ }
+    ensures { λ r. ⌜ verdict r (now (w .exit)) ≡ sized row (now (p .entry)) (ending (now (w .entry)) (now (p .entry))) ⌝ }
+{
+    if !suits(row, p) {
+        return 22;
+    }
+    end_suppression(w, p)
+}
+
+// DIR, DBR.
+fn try_rule(row: TypeRow, mark: u32, p: &[u8], area: &mut [u8], d: Descriptor, w: &mut [u32]) -> u32
+    requires { ⌜ (length (now w) ≡ 12) × (length (now area) ≡ 4096) ⌝ }
+    ensures { λ r. ⌜ Does (λ s. sized row (now (p .entry)) (ruled d s mark (now (p .entry)))) r w area ⌝ }
+{
+    if !suits(row, p) {
+        return 22;
+    }
+    draw_rule(mark, p, area, d, w)
+}
+
+// RPS: a count, then the text that begins again at its end.
+fn repeat_string(
+    row: TypeRow,
+    p: &[u8],
+    widths: &[u16],
+    area: &mut [u8],
+    d: Descriptor,
+    w: &mut [u32],
+) -> u32
+    requires { ⌜ Ready (now widths) (now area) (now w) × (length (now p) < 65536) ⌝ }
+    ensures { λ r. ⌜ Does (λ s. sized row (now (p .entry)) (repeating (now (widths .entry)) d s (now (p .entry)))) r w area ⌝ }
+{
+    if !suits(row, p) {
+        return 22;
+    }
     let count = word_at(p, 0, 0);
     if count == 0 {
         return 0;
@@ -54,7 +183,7 @@ fn mark_of(function: u8) -> u32
     if function == 0xE6 { 1 } else { 0 }
 }
 
-// One sequence, by its function code, with the bytes of its parameters.
+// One sequence whose body is whole, by its function code, with the bytes of its parameters. DBR's LENGTHs are DIR's.
 pub fn perform(
     function: u8,
     p: &[u8],
@@ -63,28 +192,33 @@ pub fn perform(
     d: Descriptor,
     w: &mut [u32],
 ) -> u32
-    requires { ⌜ Ready (now widths) (now area) (now w) × ((length (now p) < 65536) × ((lengthsOf function takes (2 + length (now p))) ≡ true)) ⌝ }
+    requires { ⌜ Ready (now widths) (now area) (now w) × (length (now p) < 65536) ⌝ }
     ensures { λ r. ⌜ Does (λ s. performed (now (widths .entry)) d s function (now (p .entry))) r w area ⌝ }
 {
     match function {
-        0xC6 => absolute_move(w, I, p),
-        0xD2 => absolute_move(w, B, p),
-        0xC8 => relative_move(w, I, p),
-        0xD4 => relative_move(w, B, p),
-        0xD8 => begin_line(w),
-        0xC0 => set_number(w, MARGIN, p, 0x7FFF, d.margin),
-        0xD0 => set_number(w, INCREMENT, p, 0x7FFF, d.increment),
-        0xC2 => set_adjustment(w, p, d.adjustment, d.direction),
-        0xC4 => set_number(w, SPACE, p, 0xFFF, ONES),
-        0xF0 => set_font(w, p, d.font),
-        0x74 => set_color(w, p, d.colour),
-        0xF6 => orientation(p),
-        0xF2 => begin_suppression(w, p),
-        0xF4 => end_suppression(w, p),
-        0xE4 | 0xE6 => draw_rule(mark_of(function), p, area, d, w),
-        0xDA => show_text(p, p.len(), widths, area, d, w),
-        0xEE => repeat_string(p, widths, area, d, w),
-        0xF8 => 0,
+        0xC6 => try_absolute(AMI, p, w, I),
+        0xD2 => try_absolute(AMB, p, w, B),
+        0xC8 => try_relative(RMI, p, w, I),
+        0xD4 => try_relative(RMB, p, w, B),
+        0xD8 => if suits(BLN, p) { begin_line(w) } else { 22 },
+        0xC0 => try_number(SIM, p, w, MARGIN, 0x7FFF, d.margin),
+        0xD0 => try_number(SBI, p, w, INCREMENT, 0x7FFF, d.increment),
+        0xC2 => try_adjustment(SIA, p, w, d.adjustment, d.direction),
+        0xC4 => try_number(SVI, p, w, SPACE, 0xFFF, ONES),
+        0xF0 => try_font(SCFL, p, w, d.font),
+        0x74 => try_color(STC, p, w, d.colour),
+        0xF6 => if suits(STO, p) { orientation(p) } else { 22 },
+        0xF2 => try_begin(BSU, p, w),
+        0xF4 => try_end(ESU, p, w),
+        0xE4 | 0xE6 => try_rule(DIR, mark_of(function), p, area, d, w),
+        // by a function of its own, as for the others, the descriptor would be copied once more
+        0xDA => if suits(TRN, p) {
+            show_text(p, p.len(), widths, area, d, w)
+        } else {
+            22
+        },
+        0xEE => repeat_string(RPS, p, widths, area, d, w),
+        0xF8 => if suits(NOP, p) { 0 } else { 22 },
         _ => 23,
     }
 }

@@ -4,7 +4,7 @@ ghost use mathlib.Core.Bool.{true};
 ghost use Prim.Native.Nat.{_+_, _≤_, _<_};
 ghost use lib.ListN.{length, drop};
 ghost use Rattle.part.specs.Reading.{stretch, sequence, element};
-ghost use Rattle.part.specs.Code.{rows, foundBy, Within};
+ghost use Rattle.part.specs.Code.{foundBy, Within};
 use super::types::misfit;
 use super::types::split;
 
@@ -68,26 +68,24 @@ fn run_length(bytes: &[u8]) -> usize
     k
 }
 
-// The sequence whose LENGTH and TYPE stand at `at`, behind the prefix or in a chain.
-fn read_sequence(types: &[u32; 128], bytes: &[u8], at: usize) -> Read
-    requires { ⌜ (now types ≡ rows) × (at ≤ 2) ⌝ }
+// The sequence whose LENGTH and TYPE stand at `at`, behind the prefix or in a chain. Its row is asked where it is performed, and here where its body is cut.
+fn read_sequence(bytes: &[u8], at: usize) -> Read
+    requires { ⌜ at ≤ 2 ⌝ }
     ensures { λ r. ⌜ (foundBy (now (bytes .entry)) r ≡ sequence at (now (bytes .entry))) × Within (length (now (bytes .entry))) r ⌝ }
 {
     let from = at + 2;
     if bytes.len() < from {
         return Read::Refused(20);
     }
-    let n = bytes[at];
-    let second = bytes[at + 1];
-    let fault = misfit(types, second, n);
-    if fault != 0 {
-        return Read::Refused(fault);
+    let n = bytes[at] as usize;
+    if n < 2 {
+        return Read::Refused(22);
     }
-    let size = at + n as usize;
+    let kind = split(bytes[at + 1]);
+    let size = at + n;
     if bytes.len() < size {
-        return Read::Refused(20);
+        return Read::Refused(misfit(kind.function, n));
     }
-    let kind = split(second);
     let chains = kind.chains as u32;
     Read::Sequence {
         function: kind.function,
@@ -98,12 +96,12 @@ fn read_sequence(types: &[u32; 128], bytes: &[u8], at: usize) -> Read
 }
 
 // The element at the start of some bytes.
-pub fn read_element(types: &[u32; 128], bytes: &[u8], chain: u32) -> Read
-    requires { ⌜ (now types ≡ rows) × (0 < length (now bytes)) ⌝ }
+pub fn read_element(bytes: &[u8], chain: u32) -> Read
+    requires { ⌜ 0 < length (now bytes) ⌝ }
     ensures { λ r. ⌜ (foundBy (now (bytes .entry)) r ≡ element chain (now (bytes .entry))) × Within (length (now (bytes .entry))) r ⌝ }
 {
     if chain == 1 {
-        return read_sequence(types, bytes, 0);
+        return read_sequence(bytes, 0);
     }
     if bytes[0] != 0x2B {
         return Read::Run(run_length(bytes));
@@ -113,5 +111,5 @@ pub fn read_element(types: &[u32; 128], bytes: &[u8], chain: u32) -> Read
             return Read::Refused(21);
         }
     }
-    read_sequence(types, bytes, 2)
+    read_sequence(bytes, 2)
 }

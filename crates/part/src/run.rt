@@ -6,7 +6,7 @@ ghost use lib.ListN.{length, getD};
 ghost use Rattle.part.specs.Ranges.{hold, descriptorFields};
 ghost use Rattle.part.specs.Reading.{cut};
 ghost use Rattle.part.specs.Part.{elements};
-ghost use Rattle.part.specs.Code.{rows, stateOf, Ready, Ran};
+ghost use Rattle.part.specs.Code.{stateOf, Ready, Ran};
 use super::perform::perform;
 use super::reader::Read;
 use super::reader::read_element;
@@ -21,15 +21,8 @@ pub struct Outcome {
     pub count: usize,
 }
 
-pub fn run(
-    types: &[u32; 128],
-    part: &[u8],
-    widths: &[u16],
-    area: &mut [u8],
-    d: Descriptor,
-    w: &mut [u32],
-) -> Outcome
-    requires { ⌜ (now types ≡ rows) × (Ready (now widths) (now area) (now w) × ((hold (descriptorFields d) ≡ true) × (length (now part) ≤ 8192))) ⌝ }
+pub fn run(part: &[u8], widths: &[u16], area: &mut [u8], d: Descriptor, w: &mut [u32]) -> Outcome
+    requires { ⌜ Ready (now widths) (now area) (now w) × ((hold (descriptorFields d) ≡ true) × (length (now part) ≤ 8192)) ⌝ }
     ensures { λ r. ⌜ Ran (elements (now (widths .entry)) d (stateOf (now (w .entry))) (cut (getD (now (w .entry)) 10 0) (now (part .entry)))) (length (cut (getD (now (w .entry)) 10 0) (now (part .entry)))) (getD (now (w .entry)) 11 0) (now (area .entry)) r (stateOf (now (w .exit))) (now (area .exit)) ⌝ }
     ensures { λ r. ⌜ (r .at ≤ 8192) × (r .count ≤ 8192) ⌝ }
 {
@@ -37,7 +30,7 @@ pub fn run(
     let mut count: usize = 0;
     while at < part.len() {
         let rest = &part[at..];
-        let found = read_element(types, rest, w[CHAIN]);
+        let found = read_element(rest, w[CHAIN]);
         match found {
             Read::Refused(code) => {
                 let fault = code as u32;

@@ -1,18 +1,22 @@
-// The table of types: for each TYPE, by its half, the LENGTHs that it takes.
+// The table of types: for each TYPE the LENGTHs that it takes.
 ghost use mathlib.Core.Path.{_≡_};
-ghost use Prim.Native.Nat.{_≤_};
-ghost use lib.Dec.{ltb};
-ghost use Rattle.part.specs.Numbers.{if_then_else_};
-ghost use Rattle.part.specs.Types.{function, chaining};
-ghost use Rattle.part.specs.Code.{verdict, bitOf, rows, fitting};
+ghost use Prim.Native.Nat.{_+_};
+ghost use lib.ListN.{length};
+ghost use Rattle.part.specs.Ranges.{_to_, _∈_};
+ghost use Rattle.part.specs.Types.{function, chaining, _takes_};
+ghost use Rattle.part.specs.Code.{verdict, lengthsIn, cutShort};
+use super::bools::both;
 
-// The LENGTHs that a type takes, as the rule book lists them: the least, the greatest, and the first and last of a hole between them.
-pub struct Lengths {
+// LENGTHs from the least to the greatest, but for those of a hole (0 and 0: none).
+pub struct Span {
     pub least: u8,
     pub greatest: u8,
-    pub holefrom: u8,
-    pub holeto: u8,
+    pub hole_from: u8,
+    pub hole_to: u8,
 }
+
+// A row: TYPE without its low bit, and its LENGTHs.
+pub struct TypeRow(pub u8, pub Span);
 
 // A TYPE byte taken apart: the function code, and 1 where it chains the next sequence.
 pub struct Kind {
@@ -20,158 +24,121 @@ pub struct Kind {
     pub chains: u8,
 }
 
-// DIR and DBR: LENGTH 4 or 7.
-const RULE: u32 = 0x07040090;
+const TWO: Span = Span {
+    least: 2,
+    greatest: 2,
+    hole_from: 0,
+    hole_to: 0,
+};
 
-// A row for each even TYPE from 00 to FE: its greatest and its least LENGTH, a byte each, and below them a bit for each LENGTH up to 7 that it takes, and one for all above.
-pub const TYPES: [u32; 128] = [
-    0,
-    0,
-    0,
-    0,
-    0,
-    0,
-    0,
-    0,
-    0,
-    0,
-    0,
-    0,
-    0,
-    0,
-    0,
-    0,
-    0,
-    0,
-    0,
-    0,
-    0,
-    0,
-    0,
-    0,
-    0,
-    0,
-    0,
-    0,
-    0,
-    0,
-    0,
-    0,
-    0,
-    0,
-    0,
-    0,
-    0,
-    0,
-    0,
-    0,
-    0,
-    0,
-    0,
-    0,
-    0,
-    0,
-    0,
-    0,
-    0,
-    0,
-    0,
-    0,
-    0,
-    0,
-    0,
-    0,
-    0,
-    0,
-    // 74: STC
-    0x05040030,
-    0,
-    0,
-    0,
-    0,
-    0,
-    0,
-    0,
-    0,
-    0,
-    0,
-    0,
-    0,
-    0,
-    0,
-    0,
-    0,
-    0,
-    0,
-    0,
-    0,
-    0,
-    0,
-    0,
-    0,
-    0,
-    0,
-    0,
-    0,
-    0,
-    0,
-    0,
-    0,
-    0,
-    0,
-    0,
-    0,
-    0,
-    // C0: SIM
-    0x04040010,
-    // C2: SIA
-    0x05040030,
-    // C4: SVI
-    0x04040010,
-    // C6: AMI
-    0x04040010,
-    // C8: RMI
-    0x04040010,
-    0,
-    0,
-    0,
-    // D0: SBI
-    0x04040010,
-    // D2: AMB
-    0x04040010,
-    // D4: RMB
-    0x04040010,
-    0,
-    // D8: BLN
-    0x02020004,
-    // DA: TRN
-    0xFF0201FC,
-    0,
-    0,
-    0,
-    0,
-    // E4: DIR
-    RULE,
-    // E6: DBR
-    RULE,
-    0,
-    0,
-    0,
-    // EE: RPS
-    0xFF0401F0,
-    // F0: SCFL
-    0x03030008,
-    // F2: BSU
-    0x03030008,
-    // F4: ESU
-    0x03030008,
-    // F6: STO
-    0x06060040,
-    // F8: NOP
-    0xFF0201FC,
-    0,
-    0,
-    0,
+const THREE: Span = Span {
+    least: 3,
+    greatest: 3,
+    hole_from: 0,
+    hole_to: 0,
+};
+
+const FOUR: Span = Span {
+    least: 4,
+    greatest: 4,
+    hole_from: 0,
+    hole_to: 0,
+};
+
+const FOUR_OR_FIVE: Span = Span {
+    least: 4,
+    greatest: 5,
+    hole_from: 0,
+    hole_to: 0,
+};
+
+const FOUR_OR_SEVEN: Span = Span {
+    least: 4,
+    greatest: 7,
+    hole_from: 5,
+    hole_to: 6,
+};
+
+const SIX: Span = Span {
+    least: 6,
+    greatest: 6,
+    hole_from: 0,
+    hole_to: 0,
+};
+
+const TWO_OR_MORE: Span = Span {
+    least: 2,
+    greatest: 255,
+    hole_from: 0,
+    hole_to: 0,
+};
+
+const FOUR_OR_MORE: Span = Span {
+    least: 4,
+    greatest: 255,
+    hole_from: 0,
+    hole_to: 0,
+};
+
+pub const AMI: TypeRow = TypeRow(0xC6, FOUR);
+
+pub const AMB: TypeRow = TypeRow(0xD2, FOUR);
+
+pub const RMI: TypeRow = TypeRow(0xC8, FOUR);
+
+pub const RMB: TypeRow = TypeRow(0xD4, FOUR);
+
+pub const BLN: TypeRow = TypeRow(0xD8, TWO);
+
+pub const SIM: TypeRow = TypeRow(0xC0, FOUR);
+
+pub const SBI: TypeRow = TypeRow(0xD0, FOUR);
+
+pub const SIA: TypeRow = TypeRow(0xC2, FOUR_OR_FIVE);
+
+pub const SVI: TypeRow = TypeRow(0xC4, FOUR);
+
+pub const SCFL: TypeRow = TypeRow(0xF0, THREE);
+
+pub const STC: TypeRow = TypeRow(0x74, FOUR_OR_FIVE);
+
+pub const STO: TypeRow = TypeRow(0xF6, SIX);
+
+pub const BSU: TypeRow = TypeRow(0xF2, THREE);
+
+pub const ESU: TypeRow = TypeRow(0xF4, THREE);
+
+pub const DIR: TypeRow = TypeRow(0xE4, FOUR_OR_SEVEN);
+
+pub const DBR: TypeRow = TypeRow(0xE6, FOUR_OR_SEVEN);
+
+pub const TRN: TypeRow = TypeRow(0xDA, TWO_OR_MORE);
+
+pub const RPS: TypeRow = TypeRow(0xEE, FOUR_OR_MORE);
+
+pub const NOP: TypeRow = TypeRow(0xF8, TWO_OR_MORE);
+
+// The table. Each type's own code asks its row by name; where a body is cut, `misfit` looks for the row.
+const TYPES: [TypeRow; 19] = [
+    AMI,
+    AMB,
+    RMI,
+    RMB,
+    BLN,
+    SIM,
+    SBI,
+    SIA,
+    SVI,
+    SCFL,
+    STC,
+    STO,
+    BSU,
+    ESU,
+    DIR,
+    DBR,
+    TRN,
+    RPS,
+    NOP,
 ];
 
 // The mask FE leaves the function code, and the mask 1 the chain flag.
@@ -184,37 +151,43 @@ pub fn split(byte: u8) -> Kind
     }
 }
 
-// The bit of a LENGTH.
-fn place_of(n: u8) -> u8
-    ensures { λ r. ⌜ (r ≡ (if ltb n 8 then n else 8)) × (r ≤ 8) ⌝ }
+// Whether a LENGTH lies from one to another.
+fn lies(n: usize, first: u8, last: u8) -> bool
+    ensures { λ r. ⌜ r ≡ (n ∈ first to last) ⌝ }
 {
-    if n < 8 { n } else { 8 }
+    both(first as usize <= n, n <= last as usize)
 }
 
-// Whether a row has a LENGTH.
-fn has(row: u32, n: u8) -> bool
-    ensures { λ r. ⌜ r ≡ bitOf row n ⌝ }
+// Whether a row takes a LENGTH.
+fn takes(row: TypeRow, n: usize) -> bool
+    ensures { λ r. ⌜ r ≡ (lengthsIn row takes n) ⌝ }
 {
-    let k = place_of(n);
-    (row >> k) % 2 == 1
+    let hole = lies(n, row.1.hole_from, row.1.hole_to);
+    both(lies(n, row.1.least, row.1.greatest), !hole)
 }
 
-// A TYPE and its LENGTH: 0, or 22 or 23. One bit decides for those that fit. The table is lent, so that it is made once a part and not once a sequence.
-pub fn misfit(types: &[u32; 128], byte: u8, n: u8) -> u16
-    requires { ⌜ now types ≡ rows ⌝ }
-    ensures { λ r. ⌜ verdict r tt ≡ fitting (function byte) n ⌝ }
+// Whether a row takes the LENGTH of these parameters. It counts itself, TYPE and the parameters.
+pub fn suits(row: TypeRow, p: &[u8]) -> bool
+    ensures { λ r. ⌜ r ≡ (lengthsIn row takes (2 + length (now (p .entry)))) ⌝ }
 {
-    let half = (byte / 2) as usize;
-    let row = types[half];
-    if has(row, n) {
-        return 0;
+    takes(row, 2 + p.len())
+}
+
+// Why a sequence with a cut body is refused: 23, 22, or else 20.
+pub fn misfit(function: u8, n: usize) -> u16
+    ensures { λ r. ⌜ verdict r tt ≡ cutShort function n ⌝ }
+{
+    let types = TYPES;
+    let mut k: usize = 0;
+    while k < 19 {
+        let row = types[k];
+        if row.0 == function {
+            if takes(row, n) {
+                return 20;
+            }
+            return 22;
+        }
+        k += 1;
     }
-    if n < 2 {
-        return 22;
-    }
-    let greatest = row / 16777216;
-    if greatest == 0 {
-        return 23;
-    }
-    22
+    23
 }

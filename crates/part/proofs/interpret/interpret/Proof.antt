@@ -3,8 +3,7 @@
 use Prim.Native.Nat.{_+_, _-_, _/_, _%_}
 use Rattle.part.proofs.Answers.{fits, refused-first, broken, whole}
 use Rattle.part.proofs.Turns.{ran-stopped}
-use Rattle.part.specs.Code.{stateOf, rows}
-use Rattle.part.specs.Types.{types}
+use Rattle.part.specs.Code.{stateOf}
 use borrow.Author.Needs.{needs}
 use denote.Ref.{now}
 use lib.ListN.{length, drop, length-drop}
@@ -37,16 +36,15 @@ slice-aggregate-run-2 : tie.Need-slice-aggregate-run-2
 slice-aggregate-run-2 c = search needs
 
 run-requires : tie.Need-run-requires
-unfolding rows types
 run-requires c κs =
-    let a = c .before .before .before .before .before .before .before .before .args in
+    let a = c .before .before .before .before .before .before .before .args in
     let part = now (a .part) in
     let widths = now (a .widths) in
     let area = now (a .area) in
     let s = a .s in
-    let adm = rw (c .before .before .before .if1 .left) at (c .before .before .before .before .admit .ensures .0) in
+    let adm = rw (c .before .before .if1 .left) at (c .before .before .before .admit .ensures .0) in
     let fit = fits (length part) (length widths) (length area) (a .d) s adm in
-    (refl, (record { twelve = refl; inRange = fit .state; widths = fit .widths; whole = refl }, (fit .descriptor, fit .part)))
+    (record { twelve = refl; inRange = fit .state; widths = fit .widths; whole = refl }, (fit .descriptor, fit .part))
 
 cast-at : tie.Need-cast-at
 cast-at c = search needs
@@ -59,12 +57,12 @@ refusal-requires-2 c κs = search needs
 
 returns-2 : tie.Need-returns-2
 returns-2 c =
-    let a = c .before .before .before .before .before .before .before .before .before .before .before .before .before .before .before .before .before .args in
+    let a = c .before .before .before .before .before .before .before .before .before .before .before .before .before .before .before .before .args in
     let part = now (a .part) in
     let widths = now (a .widths) in
     let area = now (a .area) in
     let s = a .s in
-    let adm = rw (c .before .before .before .before .before .before .before .before .before .before .before .before .if1 .left) at (c .before .before .before .before .before .before .before .before .before .before .before .before .before .admit .ensures .0) in
+    let adm = rw (c .before .before .before .before .before .before .before .before .before .before .before .if1 .left) at (c .before .before .before .before .before .before .before .before .before .before .before .before .admit .ensures .0) in
     let u = c .before .before .before .before .before .before .before .before .run in
     let stop = ran-stopped _ _ _ _ (u .result .fault) (u .result .at) (u .result .count) _ _ (c .before .before .before .before .if2 .taken) (u .ensures .0) in
     let b = broken widths (a .d) s part area adm (u .result .fault % 256) (u .result .at + u .result .fault / 256) stop in
@@ -84,15 +82,15 @@ cast-first c = search needs
 
 sub-second : tie.Need-sub-second
 sub-second c =
-    let a = c .before .before .before .before .before .before .before .before .before .before .before .before .before .before .before .before .args in
+    let a = c .before .before .before .before .before .before .before .before .before .before .before .before .before .before .before .args in
     let part = now (a .part) in
     let widths = now (a .widths) in
     let area = now (a .area) in
     let s = a .s in
-    let adm = rw (c .before .before .before .before .before .before .before .before .before .before .before .if1 .left) at (c .before .before .before .before .before .before .before .before .before .before .before .before .admit .ensures .0) in
+    let adm = rw (c .before .before .before .before .before .before .before .before .before .before .if1 .left) at (c .before .before .before .before .before .before .before .before .before .before .before .admit .ensures .0) in
     let u = c .before .before .before .before .before .before .before .run in
-    let scratch = u .last .1 .1 .1 .0 in
-    let done = whole widths (a .d) s part area adm (u .result .count) (stateOf (u .last .1 .1 .1 .1 .1 .0)) _ scratch refl (search needs) (rw (c .before .before .before .if2 .left) at (u .ensures .0)) in
+    let scratch = u .last .1 .1 .0 in
+    let done = whole widths (a .d) s part area adm (u .result .count) (stateOf (u .last .1 .1 .1 .1 .0)) _ scratch refl (search needs) (rw (c .before .before .before .if2 .left) at (u .ensures .0)) in
     let from = c .before .before .wide .ensures .0 in
     let past = c .before .wide2 .ensures .0 in
     omega (arith, done .order)
@@ -102,45 +100,45 @@ cast-second c = search needs
 
 sub-store : tie.Need-sub-store
 sub-store c =
-    let a = c .before .before .before .before .before .before .before .before .before .before .before .before .before .before .before .before .before .args in
+    let a = c .before .before .before .before .before .before .before .before .before .before .before .before .before .before .before .before .args in
     let part = now (a .part) in
     let widths = now (a .widths) in
     let area = now (a .area) in
     let s = a .s in
-    let adm = rw (c .before .before .before .before .before .before .before .before .before .before .before .before .if1 .left) at (c .before .before .before .before .before .before .before .before .before .before .before .before .before .admit .ensures .0) in
+    let adm = rw (c .before .before .before .before .before .before .before .before .before .before .before .if1 .left) at (c .before .before .before .before .before .before .before .before .before .before .before .before .admit .ensures .0) in
     let u = c .before .before .before .before .before .before .before .before .run in
-    let scratch = u .last .1 .1 .1 .0 in
-    let done = whole widths (a .d) s part area adm (u .result .count) (stateOf (u .last .1 .1 .1 .1 .1 .0)) _ scratch refl (search needs) (rw (c .before .before .before .before .if2 .left) at (u .ensures .0)) in
+    let scratch = u .last .1 .1 .0 in
+    let done = whole widths (a .d) s part area adm (u .result .count) (stateOf (u .last .1 .1 .1 .1 .0)) _ scratch refl (search needs) (rw (c .before .before .before .before .if2 .left) at (u .ensures .0)) in
     let from = c .before .before .before .wide .ensures .0 in
     let past = c .before .before .wide2 .ensures .0 in
     omega (arith, done .order)
 
 part-store-start : tie.Need-part-store-start
 part-store-start c =
-    let a = c .before .before .before .before .before .before .before .before .before .before .before .before .before .before .before .before .before .before .args in
+    let a = c .before .before .before .before .before .before .before .before .before .before .before .before .before .before .before .before .before .args in
     let part = now (a .part) in
     let widths = now (a .widths) in
     let area = now (a .area) in
     let s = a .s in
-    let adm = rw (c .before .before .before .before .before .before .before .before .before .before .before .before .before .if1 .left) at (c .before .before .before .before .before .before .before .before .before .before .before .before .before .before .admit .ensures .0) in
+    let adm = rw (c .before .before .before .before .before .before .before .before .before .before .before .before .if1 .left) at (c .before .before .before .before .before .before .before .before .before .before .before .before .before .admit .ensures .0) in
     let u = c .before .before .before .before .before .before .before .before .before .run in
-    let scratch = u .last .1 .1 .1 .0 in
-    let done = whole widths (a .d) s part area adm (u .result .count) (stateOf (u .last .1 .1 .1 .1 .1 .0)) _ scratch refl (search needs) (rw (c .before .before .before .before .before .if2 .left) at (u .ensures .0)) in
+    let scratch = u .last .1 .1 .0 in
+    let done = whole widths (a .d) s part area adm (u .result .count) (stateOf (u .last .1 .1 .1 .1 .0)) _ scratch refl (search needs) (rw (c .before .before .before .before .before .if2 .left) at (u .ensures .0)) in
     let from = c .before .before .before .before .wide .ensures .0 in
     let past = c .before .before .before .wide2 .ensures .0 in
     omega (arith, done .order)
 
 part-store-end : tie.Need-part-store-end
 part-store-end c =
-    let a = c .before .before .before .before .before .before .before .before .before .before .before .before .before .before .before .before .before .before .args in
+    let a = c .before .before .before .before .before .before .before .before .before .before .before .before .before .before .before .before .before .args in
     let part = now (a .part) in
     let widths = now (a .widths) in
     let area = now (a .area) in
     let s = a .s in
-    let adm = rw (c .before .before .before .before .before .before .before .before .before .before .before .before .before .if1 .left) at (c .before .before .before .before .before .before .before .before .before .before .before .before .before .before .admit .ensures .0) in
+    let adm = rw (c .before .before .before .before .before .before .before .before .before .before .before .before .if1 .left) at (c .before .before .before .before .before .before .before .before .before .before .before .before .before .admit .ensures .0) in
     let u = c .before .before .before .before .before .before .before .before .before .run in
-    let scratch = u .last .1 .1 .1 .0 in
-    let done = whole widths (a .d) s part area adm (u .result .count) (stateOf (u .last .1 .1 .1 .1 .1 .0)) _ scratch refl (search needs) (rw (c .before .before .before .before .before .if2 .left) at (u .ensures .0)) in
+    let scratch = u .last .1 .1 .0 in
+    let done = whole widths (a .d) s part area adm (u .result .count) (stateOf (u .last .1 .1 .1 .1 .0)) _ scratch refl (search needs) (rw (c .before .before .before .before .before .if2 .left) at (u .ensures .0)) in
     let from = c .before .before .before .before .wide .ensures .0 in
     let past = c .before .before .before .wide2 .ensures .0 in
     let long : length scratch ≡ 4096 = search needs in
@@ -148,15 +146,15 @@ part-store-end c =
 
 store-requires : tie.Need-store-requires
 store-requires c κs =
-    let a = c .before .before .before .before .before .before .before .before .before .before .before .before .before .before .before .before .before .before .before .args in
+    let a = c .before .before .before .before .before .before .before .before .before .before .before .before .before .before .before .before .before .before .args in
     let part = now (a .part) in
     let widths = now (a .widths) in
     let area = now (a .area) in
     let s = a .s in
-    let adm = rw (c .before .before .before .before .before .before .before .before .before .before .before .before .before .before .if1 .left) at (c .before .before .before .before .before .before .before .before .before .before .before .before .before .before .before .admit .ensures .0) in
+    let adm = rw (c .before .before .before .before .before .before .before .before .before .before .before .before .before .if1 .left) at (c .before .before .before .before .before .before .before .before .before .before .before .before .before .before .admit .ensures .0) in
     let u = c .before .before .before .before .before .before .before .before .before .before .run in
-    let scratch = u .last .1 .1 .1 .0 in
-    let done = whole widths (a .d) s part area adm (u .result .count) (stateOf (u .last .1 .1 .1 .1 .1 .0)) _ scratch refl (search needs) (rw (c .before .before .before .before .before .before .if2 .left) at (u .ensures .0)) in
+    let scratch = u .last .1 .1 .0 in
+    let done = whole widths (a .d) s part area adm (u .result .count) (stateOf (u .last .1 .1 .1 .1 .0)) _ scratch refl (search needs) (rw (c .before .before .before .before .before .before .if2 .left) at (u .ensures .0)) in
     let from = c .before .before .before .before .before .wide .ensures .0 in
     let past = c .before .before .before .before .wide2 .ensures .0 in
     let first = c .before .before .before .before .before .wide .result in
@@ -175,15 +173,15 @@ same-length c = search needs
 
 returns-3 : tie.Need-returns-3
 returns-3 c =
-    let a = c .before .before .before .before .before .before .before .before .before .before .before .before .before .before .before .before .before .before .before .before .before .before .before .before .args in
+    let a = c .before .before .before .before .before .before .before .before .before .before .before .before .before .before .before .before .before .before .before .before .before .before .before .args in
     let part = now (a .part) in
     let widths = now (a .widths) in
     let area = now (a .area) in
     let s = a .s in
-    let adm = rw (c .before .before .before .before .before .before .before .before .before .before .before .before .before .before .before .before .before .before .before .if1 .left) at (c .before .before .before .before .before .before .before .before .before .before .before .before .before .before .before .before .before .before .before .before .admit .ensures .0) in
+    let adm = rw (c .before .before .before .before .before .before .before .before .before .before .before .before .before .before .before .before .before .before .if1 .left) at (c .before .before .before .before .before .before .before .before .before .before .before .before .before .before .before .before .before .before .before .admit .ensures .0) in
     let u = c .before .before .before .before .before .before .before .before .before .before .before .before .before .before .before .run in
-    let scratch = u .last .1 .1 .1 .0 in
-    let done = whole widths (a .d) s part area adm (u .result .count) (stateOf (u .last .1 .1 .1 .1 .1 .0)) _ scratch refl (search needs) (rw (c .before .before .before .before .before .before .before .before .before .before .before .if2 .left) at (u .ensures .0)) in
+    let scratch = u .last .1 .1 .0 in
+    let done = whole widths (a .d) s part area adm (u .result .count) (stateOf (u .last .1 .1 .1 .1 .0)) _ scratch refl (search needs) (rw (c .before .before .before .before .before .before .before .before .before .before .before .if2 .left) at (u .ensures .0)) in
     let from = c .before .before .before .before .before .before .before .before .before .before .wide .ensures .0 in
     let past = c .before .before .before .before .before .before .before .before .before .wide2 .ensures .0 in
     (rw (c .state-of .ensures, from, past) (done .answers), c .before .before .before .before .store .ensures ∙ rw (from, past) (done .writes))

@@ -1,96 +1,83 @@
--- `part::perform::perform` meets its contract: a law for each type says what its sequence comes to.
+-- `part::perform::perform` meets its contract: a law for each type says what its sequence comes to, behind its row's test.
 -- Assumes nothing.
-use Rattle.part.proofs.Arms.{plainly, arm-AMI, arm-AMB, arm-RMI, arm-RMB, arm-BLN, arm-SIM, arm-SBI, arm-SIA, arm-SVI, arm-SCFL, arm-STC, arm-STO, arm-BSU, arm-ESU, arm-rules, arm-TRN, arm-RPS}
-use Rattle.part.proofs.Rows.{no-row, two-there}
+use Prim.Native.Nat.{_+_}
+use Rattle.part.proofs.Arms.{plainly, passing, sizing, unsized, arm-AMI, arm-AMB, arm-RMI, arm-RMB, arm-BLN, arm-SIM, arm-SBI, arm-SIA, arm-SVI, arm-SCFL, arm-STC, arm-STO, arm-BSU, arm-ESU, arm-rules, arm-TRN, arm-RPS, arm-NOP}
+use Rattle.part.proofs.Rows.{no-row}
 use Rattle.part.specs.Code.{stateOf}
-use Rattle.part.specs.Part.{placed}
-use Rattle.part.specs.Place.{place}
-use Rattle.part.specs.Types.{types}
+use Rattle.part.specs.Types.{types, all, _takes_}
 use borrow.Author.Needs.{needs}
 use denote.Ref.{now}
 use lib.ListN.{length, getD}
 use mathlib.Core.Logic.{inl, inr}
-use mathlib.Core.Path.{refl}
+use mathlib.Core.Path.{refl, sym, _∙_}
 use Rattle.part.proofs.perform.perform.Statement.{statement}
 use Rattle.part.proofs.perform.perform.Tie as tie
 
-absolute-move-requires : tie.Need-absolute-move-requires
-unfolding types
-absolute-move-requires c κs =
-    let st = c .before .before .before .before .before .before in
-    (search needs, two-there (st .args .function) 0xC6 (length (now (st .args .p))) (c .before .match .keys1) refl (st .pre .1 .1))
+try-absolute-requires : tie.Need-try-absolute-requires
+try-absolute-requires c κs = search needs
 
-absolute-move-requires-2 : tie.Need-absolute-move-requires-2
-unfolding types
-absolute-move-requires-2 c κs =
-    let st = c .before .before .before .before .before .before in
-    (search needs, two-there (st .args .function) 0xD2 (length (now (st .args .p))) (c .before .match .keys2) refl (st .pre .1 .1))
+try-absolute-requires-2 : tie.Need-try-absolute-requires-2
+try-absolute-requires-2 c κs = search needs
 
-relative-move-requires : tie.Need-relative-move-requires
-unfolding types
-relative-move-requires c κs =
-    let st = c .before .before .before .before .before .before in
-    (search needs, two-there (st .args .function) 0xC8 (length (now (st .args .p))) (c .before .match .keys3) refl (st .pre .1 .1))
+try-relative-requires : tie.Need-try-relative-requires
+try-relative-requires c κs = search needs
 
-relative-move-requires-2 : tie.Need-relative-move-requires-2
-unfolding types
-relative-move-requires-2 c κs =
-    let st = c .before .before .before .before .before .before in
-    (search needs, two-there (st .args .function) 0xD4 (length (now (st .args .p))) (c .before .match .keys4) refl (st .pre .1 .1))
+try-relative-requires-2 : tie.Need-try-relative-requires-2
+try-relative-requires-2 c κs = search needs
+
+suits-requires : tie.Need-suits-requires
+suits-requires c κs = search needs
 
 begin-line-requires : tie.Need-begin-line-requires
 begin-line-requires c κs = search needs
 
-set-number-requires : tie.Need-set-number-requires
-unfolding types
-set-number-requires c κs =
-    let st = c .before .before .before .before .before .before in
-    (search needs, two-there (st .args .function) 0xC0 (length (now (st .args .p))) (c .before .match .keys6) refl (st .pre .1 .1))
+try-number-requires : tie.Need-try-number-requires
+try-number-requires c κs = search needs
 
-set-number-requires-2 : tie.Need-set-number-requires-2
-unfolding types
-set-number-requires-2 c κs =
-    let st = c .before .before .before .before .before .before in
-    (search needs, two-there (st .args .function) 0xD0 (length (now (st .args .p))) (c .before .match .keys7) refl (st .pre .1 .1))
+try-number-requires-2 : tie.Need-try-number-requires-2
+try-number-requires-2 c κs = search needs
 
-set-adjustment-requires : tie.Need-set-adjustment-requires
-set-adjustment-requires c κs = search needs
+try-adjustment-requires : tie.Need-try-adjustment-requires
+try-adjustment-requires c κs = search needs
 
-set-number-requires-3 : tie.Need-set-number-requires-3
-unfolding types
-set-number-requires-3 c κs =
-    let st = c .before .before .before .before .before .before in
-    (search needs, two-there (st .args .function) 0xC4 (length (now (st .args .p))) (c .before .match .keys9) refl (st .pre .1 .1))
+try-number-requires-3 : tie.Need-try-number-requires-3
+try-number-requires-3 c κs = search needs
 
-set-font-requires : tie.Need-set-font-requires
-set-font-requires c κs = search needs
+try-font-requires : tie.Need-try-font-requires
+try-font-requires c κs = search needs
 
-set-color-requires : tie.Need-set-color-requires
-unfolding types
-set-color-requires c κs =
-    let st = c .before .before .before .before .before .before in
-    (search needs, two-there (st .args .function) 0x74 (length (now (st .args .p))) (c .before .match .keys11) refl (st .pre .1 .1))
+try-color-requires : tie.Need-try-color-requires
+try-color-requires c κs = search needs
+
+suits-requires-2 : tie.Need-suits-requires-2
+suits-requires-2 c κs = search needs
 
 orientation-requires : tie.Need-orientation-requires
 orientation-requires c κs = search needs
 
-begin-suppression-requires : tie.Need-begin-suppression-requires
-begin-suppression-requires c κs = search needs
+try-begin-requires : tie.Need-try-begin-requires
+try-begin-requires c κs = search needs
 
-end-suppression-requires : tie.Need-end-suppression-requires
-end-suppression-requires c κs = search needs
+try-end-requires : tie.Need-try-end-requires
+try-end-requires c κs = search needs
 
 mark-of-requires : tie.Need-mark-of-requires
 mark-of-requires c κs = search needs
 
-draw-rule-requires : tie.Need-draw-rule-requires
-draw-rule-requires c κs = search needs
+try-rule-requires : tie.Need-try-rule-requires
+try-rule-requires c κs = search needs
+
+suits-requires-3 : tie.Need-suits-requires-3
+suits-requires-3 c κs = search needs
 
 show-text-requires : tie.Need-show-text-requires
 show-text-requires c κs = search needs
 
 repeat-string-requires : tie.Need-repeat-string-requires
 repeat-string-requires c κs = search needs
+
+suits-requires-4 : tie.Need-suits-requires-4
+suits-requires-4 c κs = search needs
 
 same-length : tie.Need-same-length
 same-length c = search needs
@@ -101,9 +88,8 @@ returns c =
     let a = st .args in
     let w = now (a .w) in
     let p = now (a .p) in
-    let widths = now (a .widths) in
-    rw (c .before .before .before .before .match .keys1, arm-AMI widths (a .d) w p (st .pre .0 .twelve))
-    (plainly (c .before .before .absolute-move .result) (c .before .before .absolute-move .last .0) _ stateOf (now (a .area)) (getD w 11 0) (c .before .before .absolute-move .ensures))
+    rw (c .before .before .before .before .match .keys1, arm-AMI (now (a .widths)) (a .d) w p (st .pre .0 .twelve))
+    (plainly (all 4 4 takes (2 + length p)) (c .before .before .try-absolute .result) (c .before .before .try-absolute .last .1 .1 .0) _ stateOf (now (a .area)) (getD w 11 0) (c .before .before .try-absolute .ensures))
 
 same-length-2 : tie.Need-same-length-2
 same-length-2 c = search needs
@@ -114,9 +100,8 @@ returns-2 c =
     let a = st .args in
     let w = now (a .w) in
     let p = now (a .p) in
-    let widths = now (a .widths) in
-    rw (c .before .before .before .before .match .keys2, arm-AMB widths (a .d) w p (st .pre .0 .twelve))
-    (plainly (c .before .before .absolute-move2 .result) (c .before .before .absolute-move2 .last .0) _ stateOf (now (a .area)) (getD w 11 0) (c .before .before .absolute-move2 .ensures))
+    rw (c .before .before .before .before .match .keys2, arm-AMB (now (a .widths)) (a .d) w p (st .pre .0 .twelve))
+    (plainly (all 4 4 takes (2 + length p)) (c .before .before .try-absolute2 .result) (c .before .before .try-absolute2 .last .1 .1 .0) _ stateOf (now (a .area)) (getD w 11 0) (c .before .before .try-absolute2 .ensures))
 
 same-length-3 : tie.Need-same-length-3
 same-length-3 c = search needs
@@ -127,9 +112,8 @@ returns-3 c =
     let a = st .args in
     let w = now (a .w) in
     let p = now (a .p) in
-    let widths = now (a .widths) in
-    rw (c .before .before .before .before .match .keys3, arm-RMI widths (a .d) w p (st .pre .0 .twelve))
-    (plainly (c .before .before .relative-move .result) (c .before .before .relative-move .last .0) _ stateOf (now (a .area)) (getD w 11 0) (c .before .before .relative-move .ensures))
+    rw (c .before .before .before .before .match .keys3, arm-RMI (now (a .widths)) (a .d) w p (st .pre .0 .twelve))
+    (plainly (all 4 4 takes (2 + length p)) (c .before .before .try-relative .result) (c .before .before .try-relative .last .1 .1 .0) _ stateOf (now (a .area)) (getD w 11 0) (c .before .before .try-relative .ensures))
 
 same-length-4 : tie.Need-same-length-4
 same-length-4 c = search needs
@@ -140,38 +124,32 @@ returns-4 c =
     let a = st .args in
     let w = now (a .w) in
     let p = now (a .p) in
-    let widths = now (a .widths) in
-    rw (c .before .before .before .before .match .keys4, arm-RMB widths (a .d) w p (st .pre .0 .twelve))
-    (plainly (c .before .before .relative-move2 .result) (c .before .before .relative-move2 .last .0) _ stateOf (now (a .area)) (getD w 11 0) (c .before .before .relative-move2 .ensures))
+    rw (c .before .before .before .before .match .keys4, arm-RMB (now (a .widths)) (a .d) w p (st .pre .0 .twelve))
+    (plainly (all 4 4 takes (2 + length p)) (c .before .before .try-relative2 .result) (c .before .before .try-relative2 .last .1 .1 .0) _ stateOf (now (a .area)) (getD w 11 0) (c .before .before .try-relative2 .ensures))
 
 same-length-5 : tie.Need-same-length-5
 same-length-5 c = search needs
 
 returns-5 : tie.Need-returns-5
 returns-5 c =
-    let st = c .before .before .before .before .before .before .before .before .before in
+    let st = c .before .before .before .before .before .before .before .before .before .before .before in
     let a = st .args in
     let w = now (a .w) in
     let p = now (a .p) in
-    let widths = now (a .widths) in
-    rw (c .before .before .before .before .match .keys5, arm-BLN widths (a .d) w p (st .pre .0 .twelve))
-    (plainly (c .before .before .begin-line .result) (c .before .before .begin-line .last .0) _ stateOf (now (a .area)) (getD w 11 0) (c .before .before .begin-line .ensures))
-
-same-length-6 : tie.Need-same-length-6
-same-length-6 c = search needs
+    let fit = sym (c .before .before .before .before .before .suits .ensures) ∙ c .before .before .before .before .if1 .taken in
+    rw (c .before .before .before .before .before .before .match .keys5, arm-BLN (now (a .widths)) (a .d) w p (st .pre .0 .twelve))
+    (plainly (all 2 2 takes (2 + length p)) (c .before .before .begin-line .result) (c .before .before .begin-line .last .0) _ stateOf (now (a .area)) (getD w 11 0) (passing (all 2 2 takes (2 + length p)) _ _ fit (c .before .before .begin-line .ensures)))
 
 returns-6 : tie.Need-returns-6
 returns-6 c =
-    let st = c .before .before .before .before .before .before .before .before .before in
+    let st = c .before .before .before .before .before .before .before in
     let a = st .args in
     let w = now (a .w) in
     let p = now (a .p) in
-    let widths = now (a .widths) in
-    rw (c .before .before .before .before .match .keys6, arm-SIM widths (a .d) w p (st .pre .0 .twelve))
-    (plainly (c .before .before .set-number .result) (c .before .before .set-number .last .0) _ stateOf (now (a .area)) (getD w 11 0) (c .before .before .set-number .ensures))
+    rw (c .before .before .match .keys5, arm-BLN (now (a .widths)) (a .d) w p (st .pre .0 .twelve)) (unsized (all 2 2 takes (2 + length p)) _ (stateOf w) _ _ (sym (c .before .suits .ensures) ∙ c .if1 .left))
 
-same-length-7 : tie.Need-same-length-7
-same-length-7 c = search needs
+same-length-6 : tie.Need-same-length-6
+same-length-6 c = search needs
 
 returns-7 : tie.Need-returns-7
 returns-7 c =
@@ -179,12 +157,11 @@ returns-7 c =
     let a = st .args in
     let w = now (a .w) in
     let p = now (a .p) in
-    let widths = now (a .widths) in
-    rw (c .before .before .before .before .match .keys7, arm-SBI widths (a .d) w p (st .pre .0 .twelve))
-    (plainly (c .before .before .set-number2 .result) (c .before .before .set-number2 .last .0) _ stateOf (now (a .area)) (getD w 11 0) (c .before .before .set-number2 .ensures))
+    rw (c .before .before .before .before .match .keys6, arm-SIM (now (a .widths)) (a .d) w p (st .pre .0 .twelve))
+    (plainly (all 4 4 takes (2 + length p)) (c .before .before .try-number .result) (c .before .before .try-number .last .1 .1 .0) _ stateOf (now (a .area)) (getD w 11 0) (c .before .before .try-number .ensures))
 
-same-length-8 : tie.Need-same-length-8
-same-length-8 c = search needs
+same-length-7 : tie.Need-same-length-7
+same-length-7 c = search needs
 
 returns-8 : tie.Need-returns-8
 returns-8 c =
@@ -192,12 +169,11 @@ returns-8 c =
     let a = st .args in
     let w = now (a .w) in
     let p = now (a .p) in
-    let widths = now (a .widths) in
-    rw (c .before .before .before .before .match .keys8, arm-SIA widths (a .d) w p (st .pre .0 .twelve))
-    (plainly (c .before .before .set-adjustment .result) (c .before .before .set-adjustment .last .0) _ stateOf (now (a .area)) (getD w 11 0) (c .before .before .set-adjustment .ensures))
+    rw (c .before .before .before .before .match .keys7, arm-SBI (now (a .widths)) (a .d) w p (st .pre .0 .twelve))
+    (plainly (all 4 4 takes (2 + length p)) (c .before .before .try-number2 .result) (c .before .before .try-number2 .last .1 .1 .0) _ stateOf (now (a .area)) (getD w 11 0) (c .before .before .try-number2 .ensures))
 
-same-length-9 : tie.Need-same-length-9
-same-length-9 c = search needs
+same-length-8 : tie.Need-same-length-8
+same-length-8 c = search needs
 
 returns-9 : tie.Need-returns-9
 returns-9 c =
@@ -205,12 +181,11 @@ returns-9 c =
     let a = st .args in
     let w = now (a .w) in
     let p = now (a .p) in
-    let widths = now (a .widths) in
-    rw (c .before .before .before .before .match .keys9, arm-SVI widths (a .d) w p (st .pre .0 .twelve))
-    (plainly (c .before .before .set-number3 .result) (c .before .before .set-number3 .last .0) _ stateOf (now (a .area)) (getD w 11 0) (c .before .before .set-number3 .ensures))
+    rw (c .before .before .before .before .match .keys8, arm-SIA (now (a .widths)) (a .d) w p (st .pre .0 .twelve))
+    (plainly (all 4 5 takes (2 + length p)) (c .before .before .try-adjustment .result) (c .before .before .try-adjustment .last .1 .1 .0) _ stateOf (now (a .area)) (getD w 11 0) (c .before .before .try-adjustment .ensures))
 
-same-length-10 : tie.Need-same-length-10
-same-length-10 c = search needs
+same-length-9 : tie.Need-same-length-9
+same-length-9 c = search needs
 
 returns-10 : tie.Need-returns-10
 returns-10 c =
@@ -218,12 +193,11 @@ returns-10 c =
     let a = st .args in
     let w = now (a .w) in
     let p = now (a .p) in
-    let widths = now (a .widths) in
-    rw (c .before .before .before .before .match .keys10, arm-SCFL widths (a .d) w p (st .pre .0 .twelve))
-    (plainly (c .before .before .set-font .result) (c .before .before .set-font .last .0) _ stateOf (now (a .area)) (getD w 11 0) (c .before .before .set-font .ensures))
+    rw (c .before .before .before .before .match .keys9, arm-SVI (now (a .widths)) (a .d) w p (st .pre .0 .twelve))
+    (plainly (all 4 4 takes (2 + length p)) (c .before .before .try-number3 .result) (c .before .before .try-number3 .last .1 .1 .0) _ stateOf (now (a .area)) (getD w 11 0) (c .before .before .try-number3 .ensures))
 
-same-length-11 : tie.Need-same-length-11
-same-length-11 c = search needs
+same-length-10 : tie.Need-same-length-10
+same-length-10 c = search needs
 
 returns-11 : tie.Need-returns-11
 returns-11 c =
@@ -231,45 +205,62 @@ returns-11 c =
     let a = st .args in
     let w = now (a .w) in
     let p = now (a .p) in
-    let widths = now (a .widths) in
-    rw (c .before .before .before .before .match .keys11, arm-STC widths (a .d) w p (st .pre .0 .twelve))
-    (plainly (c .before .before .set-color .result) (c .before .before .set-color .last .0) _ stateOf (now (a .area)) (getD w 11 0) (c .before .before .set-color .ensures))
+    rw (c .before .before .before .before .match .keys10, arm-SCFL (now (a .widths)) (a .d) w p (st .pre .0 .twelve))
+    (plainly (all 3 3 takes (2 + length p)) (c .before .before .try-font .result) (c .before .before .try-font .last .1 .1 .0) _ stateOf (now (a .area)) (getD w 11 0) (c .before .before .try-font .ensures))
+
+same-length-11 : tie.Need-same-length-11
+same-length-11 c = search needs
 
 returns-12 : tie.Need-returns-12
 returns-12 c =
-    let st = c .before .before .before .before .before .before in
+    let st = c .before .before .before .before .before .before .before .before .before in
     let a = st .args in
     let w = now (a .w) in
     let p = now (a .p) in
-    let widths = now (a .widths) in
-    rw (c .before .match .keys12, arm-STO widths (a .d) w p (st .pre .0 .twelve))
-    (plainly (c .orientation .result) tt _ (λ _. stateOf w) (now (a .area)) (getD w 11 0) (c .orientation .ensures))
+    rw (c .before .before .before .before .match .keys11, arm-STC (now (a .widths)) (a .d) w p (st .pre .0 .twelve))
+    (plainly (all 4 5 takes (2 + length p)) (c .before .before .try-color .result) (c .before .before .try-color .last .1 .1 .0) _ stateOf (now (a .area)) (getD w 11 0) (c .before .before .try-color .ensures))
+
+returns-13 : tie.Need-returns-13
+returns-13 c =
+    let st = c .before .before .before .before .before .before .before .before in
+    let a = st .args in
+    let w = now (a .w) in
+    let p = now (a .p) in
+    let fit = sym (c .before .before .suits2 .ensures) ∙ c .before .if2 .taken in
+    rw (c .before .before .before .match .keys12, arm-STO (now (a .widths)) (a .d) w p (st .pre .0 .twelve))
+    (plainly (all 6 6 takes (2 + length p)) (c .orientation .result) tt _ (λ _. stateOf w) (now (a .area)) (getD w 11 0) (passing (all 6 6 takes (2 + length p)) _ _ fit (c .orientation .ensures)))
+
+returns-14 : tie.Need-returns-14
+returns-14 c =
+    let st = c .before .before .before .before .before .before .before in
+    let a = st .args in
+    let w = now (a .w) in
+    let p = now (a .p) in
+    rw (c .before .before .match .keys12, arm-STO (now (a .widths)) (a .d) w p (st .pre .0 .twelve)) (unsized (all 6 6 takes (2 + length p)) _ (stateOf w) _ _ (sym (c .before .suits2 .ensures) ∙ c .if2 .left))
 
 same-length-12 : tie.Need-same-length-12
 same-length-12 c = search needs
 
-returns-13 : tie.Need-returns-13
-returns-13 c =
+returns-15 : tie.Need-returns-15
+returns-15 c =
     let st = c .before .before .before .before .before .before .before .before .before in
     let a = st .args in
     let w = now (a .w) in
     let p = now (a .p) in
-    let widths = now (a .widths) in
-    rw (c .before .before .before .before .match .keys13, arm-BSU widths (a .d) w p (st .pre .0 .twelve))
-    (plainly (c .before .before .begin-suppression .result) (c .before .before .begin-suppression .last .0) _ stateOf (now (a .area)) (getD w 11 0) (c .before .before .begin-suppression .ensures))
+    rw (c .before .before .before .before .match .keys13, arm-BSU (now (a .widths)) (a .d) w p (st .pre .0 .twelve))
+    (plainly (all 3 3 takes (2 + length p)) (c .before .before .try-begin .result) (c .before .before .try-begin .last .1 .1 .0) _ stateOf (now (a .area)) (getD w 11 0) (c .before .before .try-begin .ensures))
 
 same-length-13 : tie.Need-same-length-13
 same-length-13 c = search needs
 
-returns-14 : tie.Need-returns-14
-returns-14 c =
+returns-16 : tie.Need-returns-16
+returns-16 c =
     let st = c .before .before .before .before .before .before .before .before .before in
     let a = st .args in
     let w = now (a .w) in
     let p = now (a .p) in
-    let widths = now (a .widths) in
-    rw (c .before .before .before .before .match .keys14, arm-ESU widths (a .d) w p (st .pre .0 .twelve))
-    (plainly (c .before .before .end-suppression .result) (c .before .before .end-suppression .last .0) _ stateOf (now (a .area)) (getD w 11 0) (c .before .before .end-suppression .ensures))
+    rw (c .before .before .before .before .match .keys14, arm-ESU (now (a .widths)) (a .d) w p (st .pre .0 .twelve))
+    (plainly (all 3 3 takes (2 + length p)) (c .before .before .try-end .result) (c .before .before .try-end .last .1 .1 .0) _ stateOf (now (a .area)) (getD w 11 0) (c .before .before .try-end .ensures))
 
 same-length-14 : tie.Need-same-length-14
 same-length-14 c = search needs
@@ -277,12 +268,13 @@ same-length-14 c = search needs
 same-length-15 : tie.Need-same-length-15
 same-length-15 c = search needs
 
-returns-15 : tie.Need-returns-15
-returns-15 c =
-    let m = c .before .before .before .before .before .before .before in
-    let st = m .before .before .before .before .before .before in
+returns-17 : tie.Need-returns-17
+returns-17 c =
+    let st = c .before .before .before .before .before .before .before .before .before .before .before .before .before in
     let a = st .args in
-    rw (arm-rules (now (a .widths)) (a .d) (now (a .w)) (now (a .p)) (st .pre .0 .twelve) (a .function) _ (m .before .match .keys15) (m .mark-of .ensures)) (c .before .before .before .before .draw-rule .ensures)
+    let w = now (a .w) in
+    let p = now (a .p) in
+    rw (arm-rules (now (a .widths)) (a .d) w p (st .pre .0 .twelve) (a .function) _ (c .before .before .before .before .before .before .before .before .match .keys15) (c .before .before .before .before .before .before .before .mark-of .ensures)) (c .before .before .before .before .try-rule .ensures)
 
 same-length-16 : tie.Need-same-length-16
 same-length-16 c = search needs
@@ -290,14 +282,23 @@ same-length-16 c = search needs
 same-length-17 : tie.Need-same-length-17
 same-length-17 c = search needs
 
-returns-16 : tie.Need-returns-16
-returns-16 c =
-    let st = c .before .before .before .before .before .before .before .before .before .before .before .before in
+returns-18 : tie.Need-returns-18
+returns-18 c =
+    let st = c .before .before .before .before .before .before .before .before .before .before .before .before .before .before in
     let a = st .args in
     let w = now (a .w) in
     let p = now (a .p) in
-    let widths = now (a .widths) in
-    rw (c .before .before .before .before .before .before .before .match .keys16, arm-TRN widths (a .d) w p (st .pre .0 .twelve)) (c .before .before .before .before .show-text .ensures)
+    let fit = sym (c .before .before .before .before .before .before .before .before .suits3 .ensures) ∙ c .before .before .before .before .before .before .before .if3 .taken in
+    rw (c .before .before .before .before .before .before .before .before .before .match .keys16, arm-TRN (now (a .widths)) (a .d) w p (st .pre .0 .twelve))
+    (sizing (all 2 255 takes (2 + length p)) _ _ _ _ _ fit (c .before .before .before .before .show-text .ensures))
+
+returns-19 : tie.Need-returns-19
+returns-19 c =
+    let st = c .before .before .before .before .before .before .before in
+    let a = st .args in
+    let w = now (a .w) in
+    let p = now (a .p) in
+    rw (c .before .before .match .keys16, arm-TRN (now (a .widths)) (a .d) w p (st .pre .0 .twelve)) (unsized (all 2 255 takes (2 + length p)) _ (stateOf w) _ _ (sym (c .before .suits3 .ensures) ∙ c .if3 .left))
 
 same-length-18 : tie.Need-same-length-18
 same-length-18 c = search needs
@@ -305,28 +306,34 @@ same-length-18 c = search needs
 same-length-19 : tie.Need-same-length-19
 same-length-19 c = search needs
 
-returns-17 : tie.Need-returns-17
-returns-17 c =
+returns-20 : tie.Need-returns-20
+returns-20 c =
     let st = c .before .before .before .before .before .before .before .before .before .before .before .before in
     let a = st .args in
     let w = now (a .w) in
     let p = now (a .p) in
-    let widths = now (a .widths) in
-    rw (c .before .before .before .before .before .before .before .match .keys17, arm-RPS widths (a .d) w p (st .pre .0 .twelve)) (c .before .before .before .before .repeat-string .ensures)
+    rw (c .before .before .before .before .before .before .before .match .keys17, arm-RPS (now (a .widths)) (a .d) w p (st .pre .0 .twelve)) (c .before .before .before .before .repeat-string .ensures)
 
-returns-18 : tie.Need-returns-18
-unfolding types placed place
-returns-18 c =
-    let st = c .before .before .before .before .before in
+returns-21 : tie.Need-returns-21
+returns-21 c =
+    let st = c .before .before .before .before .before .before .before in
     let a = st .args in
     let w = now (a .w) in
     let p = now (a .p) in
-    let widths = now (a .widths) in
-    rw (c .match .keys18) (refl, refl)
+    let fit = sym (c .before .suits4 .ensures) ∙ c .if4 .taken in
+    rw (c .before .before .match .keys18, arm-NOP (now (a .widths)) (a .d) w p (st .pre .0 .twelve)) (sizing (all 2 255 takes (2 + length p)) _ _ _ _ _ fit (refl, refl))
 
-returns-19 : tie.Need-returns-19
+returns-22 : tie.Need-returns-22
+returns-22 c =
+    let st = c .before .before .before .before .before .before .before in
+    let a = st .args in
+    let w = now (a .w) in
+    let p = now (a .p) in
+    rw (c .before .before .match .keys18, arm-NOP (now (a .widths)) (a .d) w p (st .pre .0 .twelve)) (unsized (all 2 255 takes (2 + length p)) _ (stateOf w) _ _ (sym (c .before .suits4 .ensures) ∙ c .if4 .left))
+
+returns-23 : tie.Need-returns-23
 unfolding types
-returns-19 c =
+returns-23 c =
     let r = c .match .rest in
     rw (no-row (c .before .before .before .before .before .args .function) (Unit {0}) types (((((r .0 .0 .0 .0, λ e. r .0 .0 .0 .1 (inl e)), λ e. r .0 .0 .0 .1 (inr e)), r .0 .0 .1), r .0 .1), r .1)) (refl, refl)
 
@@ -334,24 +341,28 @@ pub perform-spec : {M : Type 1} → statement M
 perform-spec =
     tie.close
     (tie.spec
-    absolute-move-requires
-    absolute-move-requires-2
-    relative-move-requires
-    relative-move-requires-2
+    try-absolute-requires
+    try-absolute-requires-2
+    try-relative-requires
+    try-relative-requires-2
+    suits-requires
     begin-line-requires
-    set-number-requires
-    set-number-requires-2
-    set-adjustment-requires
-    set-number-requires-3
-    set-font-requires
-    set-color-requires
+    try-number-requires
+    try-number-requires-2
+    try-adjustment-requires
+    try-number-requires-3
+    try-font-requires
+    try-color-requires
+    suits-requires-2
     orientation-requires
-    begin-suppression-requires
-    end-suppression-requires
+    try-begin-requires
+    try-end-requires
     mark-of-requires
-    draw-rule-requires
+    try-rule-requires
+    suits-requires-3
     show-text-requires
     repeat-string-requires
+    suits-requires-4
     same-length
     returns
     same-length-2
@@ -362,31 +373,35 @@ perform-spec =
     returns-4
     same-length-5
     returns-5
-    same-length-6
     returns-6
-    same-length-7
+    same-length-6
     returns-7
-    same-length-8
+    same-length-7
     returns-8
-    same-length-9
+    same-length-8
     returns-9
-    same-length-10
+    same-length-9
     returns-10
-    same-length-11
+    same-length-10
     returns-11
+    same-length-11
     returns-12
-    same-length-12
     returns-13
-    same-length-13
     returns-14
+    same-length-12
+    returns-15
+    same-length-13
+    returns-16
     same-length-14
     same-length-15
-    returns-15
+    returns-17
     same-length-16
     same-length-17
-    returns-16
+    returns-18
+    returns-19
     same-length-18
     same-length-19
-    returns-17
-    returns-18
-    returns-19)
+    returns-20
+    returns-21
+    returns-22
+    returns-23)

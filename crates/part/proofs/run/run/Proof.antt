@@ -17,16 +17,16 @@ use Rattle.part.proofs.run.run.Statement.{statement}
 use Rattle.part.proofs.run.run.Tie as tie
 
 abbrev Inv-loop : tie.InvT-loop
-Inv-loop types part widths area₀ d w₀ at₀ count₀ area w at count = Here widths d part w₀ area₀ area w at count
+Inv-loop part widths area₀ d w₀ at₀ count₀ area w at count = Here widths d part w₀ area₀ area w at count
 
 abbrev μ-loop : tie.MeasureT-loop
-μ-loop types part widths area₀ d w₀ at₀ count₀ area w at count = length part - at
+μ-loop part widths area₀ d w₀ at₀ count₀ area w at count = length part - at
 
 loop-holds : tie.Need-loop-holds Inv-loop μ-loop
 loop-holds c =
     let st = c .before .before .before .before in
     let a = st .args in
-    start (now (a .widths)) (a .d) (now (a .part)) (now (a .w)) (now (a .area)) (st .pre .1 .0)
+    start (now (a .widths)) (a .d) (now (a .part)) (now (a .w)) (now (a .area)) (st .pre .0)
 
 sub-rest : tie.Need-sub-rest Inv-loop μ-loop
 sub-rest c = search needs
@@ -57,7 +57,7 @@ read-element-requires c κs =
     let w = l .loop .w in
     let at = l .loop .at in
     let here = l .loop .inv in
-    (st .pre .0, rw (tail-of part at) (omega (arith, length-drop at part, c .before .before .loop-test .taken)))
+    rw (tail-of part at) (omega (arith, length-drop at part, c .before .before .loop-test .taken))
 
 enum-known-found : tie.Need-enum-known-found Inv-loop μ-loop
 enum-known-found c = search needs
@@ -74,7 +74,7 @@ same-length c =
     let w = l .loop .w in
     let at = l .loop .at in
     let here = l .loop .inv in
-    omega (arith, here .ready .whole, st .pre .1 .0 .whole)
+    omega (arith, here .ready .whole, st .pre .0 .whole)
 
 same-length-2 : tie.Need-same-length-2 Inv-loop μ-loop
 same-length-2 c =
@@ -85,7 +85,7 @@ same-length-2 c =
     let w = l .loop .w in
     let at = l .loop .at in
     let here = l .loop .inv in
-    omega (arith, here .ready .twelve, st .pre .1 .0 .twelve)
+    omega (arith, here .ready .twelve, st .pre .0 .twelve)
 
 returns : tie.Need-returns Inv-loop μ-loop
 returns c =
@@ -101,7 +101,7 @@ returns c =
     let found = c .before .found .given .1 in
     let read = rw found at (c .before .before .before .read-element .ensures .0) in
     let inside = rw found at (c .before .before .before .read-element .ensures .1) in
-    (ran-fault _ _ _ _ _ at (l .loop .count) _ _ (λ e. omega (arith, inside)) (refused (now (a .widths)) (a .d) part (now (a .w)) (now (a .area)) (l .loop .area) w at (l .loop .count) here (c .before .before .before .before .before .before .loop-test .taken) _ _ inside (rw tail at read)), (omega (arith, here .within, st .pre .1 .1 .1), omega (arith, here .within, here .fewer, st .pre .1 .1 .1)))
+    (ran-fault _ _ _ _ _ at (l .loop .count) _ _ (λ e. omega (arith, inside)) (refused (now (a .widths)) (a .d) part (now (a .w)) (now (a .area)) (l .loop .area) w at (l .loop .count) here (c .before .before .before .before .before .before .loop-test .taken) _ _ inside (rw tail at read)), (omega (arith, here .within, st .pre .1 .1), omega (arith, here .within, here .fewer, st .pre .1 .1)))
 
 enum-known-found-2 : tie.Need-enum-known-found-2 Inv-loop μ-loop
 enum-known-found-2 c = search needs
@@ -139,7 +139,7 @@ show-text-requires c κs =
     let inside = rw found at (c .before .before .before .before .before .before .read-element .ensures .1) in
     let z : length rest ≡ length part - at = ap length tail ∙ length-drop at part in
     let n = length-take-le _ rest (inside .1) in
-    (here .ready, ((λ _. omega (arith, n, inside .0)), (omega (arith, n, inside .1, z, st .pre .1 .1 .1), omega (arith, inside .1, z, st .pre .1 .1 .1))))
+    (here .ready, ((λ _. omega (arith, n, inside .0)), (omega (arith, n, inside .1, z, st .pre .1 .1), omega (arith, inside .1, z, st .pre .1 .1))))
 
 same-length-3 : tie.Need-same-length-3 Inv-loop μ-loop
 same-length-3 c = search needs
@@ -171,7 +171,7 @@ returns-2 c =
     let told = rw tail at (c .before .before .before .before .before .show-text .ensures) in
     let state = told .0 ∙ ap stateAfter e in
     let ink = told .1 ∙ ap (inked (l .loop .area) (getD w 11 0)) e in
-    (ran-fault _ _ _ _ _ at (l .loop .count) _ _ (c .if1 .taken) (faulted (now (a .widths)) (a .d) part (now (a .w)) (now (a .area)) (l .loop .area) w at (l .loop .count) here (c .before .before .before .before .before .before .before .before .before .before .before .before .before .before .before .loop-test .taken) _ 0 _ _ _ step (c .if1 .taken) state), (omega (arith, here .within, st .pre .1 .1 .1), omega (arith, here .within, here .fewer, st .pre .1 .1 .1)))
+    (ran-fault _ _ _ _ _ at (l .loop .count) _ _ (c .if1 .taken) (faulted (now (a .widths)) (a .d) part (now (a .w)) (now (a .area)) (l .loop .area) w at (l .loop .count) here (c .before .before .before .before .before .before .before .before .before .before .before .before .before .before .before .loop-test .taken) _ 0 _ _ _ step (c .if1 .taken) state), (omega (arith, here .within, st .pre .1 .1), omega (arith, here .within, here .fewer, st .pre .1 .1)))
 
 slice-write-w : tie.Need-slice-write-w Inv-loop μ-loop
 slice-write-w c = search needs
@@ -191,7 +191,7 @@ add-at c =
     let read = rw found at (c .before .before .before .before .before .before .before .before .before .before .before .before .read-element .ensures .0) in
     let inside = rw found at (c .before .before .before .before .before .before .before .before .before .before .before .before .read-element .ensures .1) in
     let z : length rest ≡ length part - at = ap length tail ∙ length-drop at part in
-    omega (arith, inside .1, z, here .within, st .pre .1 .1 .1)
+    omega (arith, inside .1, z, here .within, st .pre .1 .1)
 
 add-count : tie.Need-add-count Inv-loop μ-loop
 add-count c =
@@ -208,7 +208,7 @@ add-count c =
     let read = rw found at (c .before .before .before .before .before .before .before .before .before .before .before .before .read-element .ensures .0) in
     let inside = rw found at (c .before .before .before .before .before .before .before .before .before .before .before .before .read-element .ensures .1) in
     let z : length rest ≡ length part - at = ap length tail ∙ length-drop at part in
-    omega (arith, here .fewer, here .within, st .pre .1 .1 .1)
+    omega (arith, here .fewer, here .within, st .pre .1 .1)
 
 loop-less : tie.Need-loop-less Inv-loop μ-loop
 loop-less c =
@@ -251,7 +251,7 @@ loop-again c =
     let told = rw tail at (c .before .before .before .before .before .show-text .ensures) in
     let state = told .0 ∙ ap stateAfter e in
     let ink = told .1 ∙ ap (inked (l .loop .area) (getD w 11 0)) e in
-    turn (now (a .widths)) (a .d) part (now (a .w)) (now (a .area)) (l .loop .area) w at (l .loop .count) here (c .before .before .before .before .before .before .before .before .before .before .before .before .before .before .before .loop-test .taken) size 0 (placed widths (a .d) s (Text (take size (drop at part)))) (c .before .before .before .before .before .show-text .last .1 .1 .1 .1 .1 .0) (c .before .before .before .before .before .show-text .last .1 .1 .1 .0) step (st .pre .1 .1 .0) (omega (arith, here .ready .twelve)) (omega (arith, here .ready .whole)) (rw (c .if1 .left) at state) ink
+    turn (now (a .widths)) (a .d) part (now (a .w)) (now (a .area)) (l .loop .area) w at (l .loop .count) here (c .before .before .before .before .before .before .before .before .before .before .before .before .before .before .before .loop-test .taken) size 0 (placed widths (a .d) s (Text (take size (drop at part)))) (c .before .before .before .before .before .show-text .last .1 .1 .1 .1 .1 .0) (c .before .before .before .before .before .show-text .last .1 .1 .1 .0) step (st .pre .1 .0) (omega (arith, here .ready .twelve)) (omega (arith, here .ready .whole)) (rw (c .if1 .left) at state) ink
 
 enum-known-found-3 : tie.Need-enum-known-found-3 Inv-loop μ-loop
 enum-known-found-3 c = search needs
@@ -324,7 +324,7 @@ perform-requires c κs =
     let z : length rest ≡ length part - at = ap length tail ∙ length-drop at part in
     let x = c .before .before .before .before .found3 .given .0 in
     let n = length-take-le (x .1 .1 .0 - x .1 .0) (drop (x .1 .0) rest) (omega (arith, length-drop (x .1 .0) rest, inside .1 .1 .0)) in
-    (here .ready, (omega (arith, n, inside .1 .1 .0, z, st .pre .1 .1 .1), rw n (inside .1 .1 .1 .1)))
+    (here .ready, omega (arith, n, inside .1 .1 .0, z, st .pre .1 .1))
 
 same-length-5 : tie.Need-same-length-5 Inv-loop μ-loop
 same-length-5 c = search needs
@@ -352,7 +352,7 @@ returns-3 c =
     let s = stateOf w in
     let step = sequence-step (now (a .widths)) (a .d) s (getD w 10 0) (drop at part) (x .0) (x .1 .1 .0) (x .1 .1 .1 .0) p (rw tail at read) in
     let done = rw tail at (c .before .before .before .before .before .perform .ensures) in
-    (ran-fault _ _ _ _ _ at (l .loop .count) _ _ (c .if2 .taken) (faulted (now (a .widths)) (a .d) part (now (a .w)) (now (a .area)) (l .loop .area) w at (l .loop .count) here (c .before .before .before .before .before .before .before .before .before .before .before .before .before .before .before .loop-test .taken) _ _ _ _ _ step (c .if2 .taken) (done .0)), (omega (arith, here .within, st .pre .1 .1 .1), omega (arith, here .within, here .fewer, st .pre .1 .1 .1)))
+    (ran-fault _ _ _ _ _ at (l .loop .count) _ _ (c .if2 .taken) (faulted (now (a .widths)) (a .d) part (now (a .w)) (now (a .area)) (l .loop .area) w at (l .loop .count) here (c .before .before .before .before .before .before .before .before .before .before .before .before .before .before .before .loop-test .taken) _ _ _ _ _ step (c .if2 .taken) (done .0)), (omega (arith, here .within, st .pre .1 .1), omega (arith, here .within, here .fewer, st .pre .1 .1)))
 
 slice-write-w-2 : tie.Need-slice-write-w-2 Inv-loop μ-loop
 slice-write-w-2 c = search needs
@@ -372,7 +372,7 @@ add-at-2 c =
     let read = rw found at (c .before .before .before .before .before .before .before .before .before .before .before .before .read-element .ensures .0) in
     let inside = rw found at (c .before .before .before .before .before .before .before .before .before .before .before .before .read-element .ensures .1) in
     let z : length rest ≡ length part - at = ap length tail ∙ length-drop at part in
-    omega (arith, inside .1 .1 .0, z, here .within, st .pre .1 .1 .1)
+    omega (arith, inside .1 .1 .0, z, here .within, st .pre .1 .1)
 
 add-count-2 : tie.Need-add-count-2 Inv-loop μ-loop
 add-count-2 c =
@@ -389,7 +389,7 @@ add-count-2 c =
     let read = rw found at (c .before .before .before .before .before .before .before .before .before .before .before .before .read-element .ensures .0) in
     let inside = rw found at (c .before .before .before .before .before .before .before .before .before .before .before .before .read-element .ensures .1) in
     let z : length rest ≡ length part - at = ap length tail ∙ length-drop at part in
-    omega (arith, here .fewer, here .within, st .pre .1 .1 .1)
+    omega (arith, here .fewer, here .within, st .pre .1 .1)
 
 loop-less-2 : tie.Need-loop-less-2 Inv-loop μ-loop
 loop-less-2 c =
@@ -428,7 +428,7 @@ loop-again-2 c =
     let s = stateOf w in
     let step = sequence-step (now (a .widths)) (a .d) s (getD w 10 0) (drop at part) (x .0) (x .1 .1 .0) (x .1 .1 .1 .0) p (rw tail at read) in
     let done = rw tail at (c .before .before .before .before .before .perform .ensures) in
-    turn (now (a .widths)) (a .d) part (now (a .w)) (now (a .area)) (l .loop .area) w at (l .loop .count) here (c .before .before .before .before .before .before .before .before .before .before .before .before .before .before .before .loop-test .taken) (x .1 .1 .0) (x .1 .1 .1 .0) (performed (now (a .widths)) (a .d) s (x .0) p) (c .before .before .before .before .before .perform .last .1 .1 .1 .1 .1 .0) (c .before .before .before .before .before .perform .last .1 .1 .1 .0) step (st .pre .1 .1 .0) (omega (arith, here .ready .twelve)) (omega (arith, here .ready .whole)) (rw (c .if2 .left) at (done .0)) (done .1)
+    turn (now (a .widths)) (a .d) part (now (a .w)) (now (a .area)) (l .loop .area) w at (l .loop .count) here (c .before .before .before .before .before .before .before .before .before .before .before .before .before .before .before .loop-test .taken) (x .1 .1 .0) (x .1 .1 .1 .0) (performed (now (a .widths)) (a .d) s (x .0) p) (c .before .before .before .before .before .perform .last .1 .1 .1 .1 .1 .0) (c .before .before .before .before .before .perform .last .1 .1 .1 .0) step (st .pre .1 .0) (omega (arith, here .ready .twelve)) (omega (arith, here .ready .whole)) (rw (c .if2 .left) at (done .0)) (done .1)
 
 same-length-7 : tie.Need-same-length-7 Inv-loop μ-loop
 same-length-7 c = search needs
@@ -445,7 +445,7 @@ returns-4 c =
     let w = l .loop .w in
     let at = l .loop .at in
     let here = l .loop .inv in
-    (ended (now (a .widths)) (a .d) part (now (a .w)) (now (a .area)) (l .loop .area) w at (l .loop .count) here (c .loop-test .left), (omega (arith, here .within, st .pre .1 .1 .1), omega (arith, here .within, here .fewer, st .pre .1 .1 .1)))
+    (ended (now (a .widths)) (a .d) part (now (a .w)) (now (a .area)) (l .loop .area) w at (l .loop .count) here (c .loop-test .left), (omega (arith, here .within, st .pre .1 .1), omega (arith, here .within, here .fewer, st .pre .1 .1)))
 
 pub run-spec : {M : Type 1} → statement M
 run-spec =

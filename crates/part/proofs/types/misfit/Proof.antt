@@ -1,63 +1,69 @@
--- `part::types::misfit` meets its contract: the table's row is the rule book's, and its bit decides.
+-- `part::types::misfit` meets its contract. The invariant: no row before k has the type. The code's table is the rule book's: one test that computes.
 -- Assumes nothing.
-use Prim.Native.Nat.{ℕ, _*_, _/_}
-use Rattle.part.proofs.Packed.{row-at, fits, too-short, untyped, misfits}
+use Prim.Native.Nat.{_-_}
+use Rattle.part.proofs.Rows.{cutIf, Seeking, seek, seek-found, seek-on, seek-none}
+use Rattle.part.specs.Types.{types}
 use borrow.Author.Needs.{needs}
-use lib.ListN.{getD}
-use mathlib.Core.List.{List}
-use mathlib.Core.Path.{sym, _∙_, ap}
+use mathlib.Core.Path.{refl, sym, _∙_, ap}
 use Rattle.part.proofs.types.misfit.Statement.{statement}
 use Rattle.part.proofs.types.misfit.Tie as tie
 
-cast-half : tie.Need-cast-half
-cast-half c = search needs
+abbrev Inv-loop : tie.InvT-loop
+Inv-loop function n table k₀ k = Seeking table function n k
 
-mul-row : tie.Need-mul-row
+abbrev μ-loop : tie.MeasureT-loop
+μ-loop function n table k₀ k = 19 - k
+
+loop-holds : tie.Need-loop-holds Inv-loop μ-loop
+unfolding types
+loop-holds c = seek _ (c .args .function) (c .args .n) refl refl
+
+mul-row : tie.Need-mul-row Inv-loop μ-loop
 mul-row c = search needs
 
-element-copy-out-row : tie.Need-element-copy-out-row
-element-copy-out-row c = search needs
+array-copy-out-row : tie.Need-array-copy-out-row Inv-loop μ-loop
+array-copy-out-row c = search needs
 
-has-requires : tie.Need-has-requires
-has-requires c κs = search needs
+takes-requires : tie.Need-takes-requires Inv-loop μ-loop
+takes-requires c κs = search needs
 
-returns : tie.Need-returns
+returns : tie.Need-returns Inv-loop μ-loop
 returns c =
-    let r = c .before .before in
-    let a = r .before .args in
-    let half = a .byte / 2 in
-    let row = ap (λ (l : List ℕ). getD l half 0) (r .before .pre) ∙ row-at half (search needs) in
-    let bit = c .before .has .ensures in
-    sym (fits (half * 2) (a .n) _ (search needs) row (sym bit ∙ c .if1 .taken))
+    let l = c .before .before .before .before .before in
+    sym (ap cutIf (sym (c .before .takes .ensures) ∙ c .if2 .taken)) ∙ seek-found (l .before .loop .inv) _ (l .loop-test .taken) (c .before .before .if1 .taken)
 
-returns-2 : tie.Need-returns-2
+returns-2 : tie.Need-returns-2 Inv-loop μ-loop
 returns-2 c =
-    let r = c .before .before .before in
-    let a = r .before .args in
-    let half = a .byte / 2 in
-    let row = ap (λ (l : List ℕ). getD l half 0) (r .before .pre) ∙ row-at half (search needs) in
-    let bit = c .before .before .has .ensures in
-    sym (too-short (half * 2) (a .n) _ (search needs) row (c .if2 .taken))
+    let l = c .before .before .before .before .before in
+    sym (ap cutIf (sym (c .before .takes .ensures) ∙ c .if2 .left)) ∙ seek-found (l .before .loop .inv) _ (l .loop-test .taken) (c .before .before .if1 .taken)
 
-returns-3 : tie.Need-returns-3
-returns-3 c =
-    let r = c .before .before .before .before in
-    let a = r .before .args in
-    let half = a .byte / 2 in
-    let row = ap (λ (l : List ℕ). getD l half 0) (r .before .pre) ∙ row-at half (search needs) in
-    let bit = c .before .before .before .has .ensures in
-    sym (untyped (half * 2) (a .n) _ (search needs) row (c .before .if2 .left) (c .if3 .taken))
+add-k : tie.Need-add-k Inv-loop μ-loop
+add-k c = search needs
 
-returns-4 : tie.Need-returns-4
-returns-4 c =
-    let r = c .before .before .before .before in
-    let a = r .before .args in
-    let half = a .byte / 2 in
-    let row = ap (λ (l : List ℕ). getD l half 0) (r .before .pre) ∙ row-at half (search needs) in
-    let bit = c .before .before .before .has .ensures in
-    sym (misfits (half * 2) (a .n) _ (search needs) row (c .before .if2 .left) (c .if3 .left) (sym bit ∙ c .before .before .if1 .left))
+loop-less : tie.Need-loop-less Inv-loop μ-loop
+loop-less c = search needs
+
+loop-again : tie.Need-loop-again Inv-loop μ-loop
+loop-again c =
+    let l = c .before .before .before in
+    seek-on (l .before .loop .inv) _ (l .loop-test .taken) (c .if1 .left)
+
+returns-3 : tie.Need-returns-3 Inv-loop μ-loop
+returns-3 c = seek-none (c .before .loop .inv) (c .loop-test .left)
 
 pub misfit-spec : {M : Type 1} → statement M
 misfit-spec =
     tie.close
-    (tie.spec cast-half mul-row element-copy-out-row has-requires returns returns-2 returns-3 returns-4)
+    (tie.spec
+    Inv-loop
+    μ-loop
+    loop-holds
+    mul-row
+    array-copy-out-row
+    takes-requires
+    returns
+    returns-2
+    add-k
+    loop-less
+    loop-again
+    returns-3)
