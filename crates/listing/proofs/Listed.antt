@@ -8,7 +8,7 @@ use borrow.Author.Tests.{eq-eqb, ne-eqb}
 use lib.ListN.{length, length-append, take, replicate, length-replicate}
 use lib.Seq.{take-all}
 use Rattle.part.specs.Part.{interpreted, areaAfter}
-use Rattle.part.specs.Sheets.{descriptor, fresh}
+use Rattle.part.specs.Sheets.{descriptor, sheetState}
 use Rattle.part.specs.declared.shapes.Interpreted.{Interpreted}
 use Rattle.part.specs.declared.shapes.State.{State}
 use Rattle.part.proofs.Stores.{there}
@@ -35,13 +35,13 @@ shown out text end after p h =
     let is : take end after ≡ text = rw (p .1, p .0) (there out 0 text (0 + length text) (omega (arith, e, h)) (omega arith) ∙ take-all (0 + length text) text (omega arith)) in
     ((omega (arith, k, h), sym (ap length is ∙ (let z = p .0 in omega (arith, z)))), is)
 
-module _ (part : List ℕ) (r : Interpreted) (area : List ℕ) (is : r ≡ interpreted (replicate 1024 144) descriptor fresh part (replicate 4096 0)) (its : area ≡ areaAfter (replicate 1024 144) descriptor fresh part (replicate 4096 0)) where
+module _ (part : List ℕ) (r : Interpreted) (area : List ℕ) (is : r ≡ interpreted (replicate 1024 144) descriptor sheetState part (replicate 4096 0)) (its : area ≡ areaAfter (replicate 1024 144) descriptor sheetState part (replicate 4096 0)) where
   pub area-long : length area ≡ 4096
-  area-long = ap length its ∙ area-length (replicate 1024 144) descriptor fresh part (replicate 4096 0) ∙ length-replicate {A = ℕ} 4096 0
+  area-long = ap length its ∙ area-length (replicate 1024 144) descriptor sheetState part (replicate 4096 0) ∙ length-replicate {A = ℕ} 4096 0
 
   pub used-fits : r .answer .code ≡ 0 → r .state .used ≤ 4096
   used-fits h =
-      let (f, a) = accepted (replicate 1024 144) descriptor fresh part (replicate 4096 0) (sym (ap (λ (x : Interpreted). x .answer .code) is) ∙ h) in
+      let (f, a) = accepted (replicate 1024 144) descriptor sheetState part (replicate 4096 0) (sym (ap (λ (x : Interpreted). x .answer .code) is) ∙ h) in
       let used = ap (λ (x : Interpreted). x .state .used) is in
       let grows = a .grows in
       let fits = a .fits in

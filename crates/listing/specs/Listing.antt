@@ -14,7 +14,7 @@ use Rattle.part.specs.Reading.{sequence, element, cutFrom, cut}
 use Rattle.part.specs.Presenting.{moved}
 use Rattle.part.specs.Text.{character, characters, cycle}
 use Rattle.part.specs.Place.{placeText, placeRule, place}
-use Rattle.part.specs.Sheets.{descriptor, fresh, hex}
+use Rattle.part.specs.Sheets.{descriptor, sheetState, hex}
 use Rattle.part.specs.declared.shapes.Interpreted.{Interpreted}
 use Rattle.listing.specs.Lines.{digits, middle, each, numbers, lineOf, charactersInHex}
 
@@ -101,7 +101,7 @@ unfoldable pub listing : List ℕ → List ℕ
 listing part =
     let widths : List ℕ = replicate 1024 144 in
     let area : List ℕ = replicate 4096 0 in
-    partLine (length part) ++ outcomeLines (interpreted widths descriptor fresh part area) (areaAfter widths descriptor fresh part area)
+    partLine (length part) ++ outcomeLines (interpreted widths descriptor sheetState part area) (areaAfter widths descriptor sheetState part area)
 
 -- ---- the paper's example: 2BD304C702D004D201E0C1C2
 

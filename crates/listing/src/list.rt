@@ -10,8 +10,8 @@ use super::text::MIDDLE;
 use super::text::put_line;
 use part::numbers::wide;
 use part::shapes::Interpreted;
-use part::sheet::fresh;
 use part::sheet::on_sheet;
+use part::sheet::sheet_state;
 
 fn plain(n: u32) -> u64
     ensures { λ r. ⌜ r ≡ plainNumber n ⌝ }
@@ -64,7 +64,7 @@ pub fn list(part: &[u8], out: &mut [u8]) -> usize
     ensures { λ r. ⌜ take r (now (out .exit)) ≡ listing (now (part .entry)) ⌝ }
 {
     let mut area = [0u8; 4096];
-    let r = on_sheet(part, 144, 240, &mut area, fresh(240));
+    let r = on_sheet(part, 144, 240, &mut area, sheet_state(240));
     let to = put_part(out, 0, part.len());
     if r.answer.code != 0 {
         return put_refused(out, to, r);

@@ -50,8 +50,8 @@ begun increment = state (point origin origin) 0 increment 0 0 0 0xFF07 ones 0 0 
 abbrev pub descriptor : Descriptor
 descriptor = lined 240
 
-abbrev pub fresh : State
-fresh = begun 240
+abbrev pub sheetState : State
+sheetState = begun 240
 
 -- all widths; the part before and its answer; the part and its answer; the place after it, and the characters that it shows
 pub record Sheet : Type 0 where
@@ -133,12 +133,12 @@ shownOf (fine e) = charactersOf (e .items)
 shownOf (fault code at) = []
 
 -- a sheet as the definitions have it
-unfoldable pub found : Sheet → Sheet
-found s =
+unfoldable pub computed : Sheet → Sheet
+computed s =
     let widths = replicate 1024 (s .width) in
     let empty : List ℕ = replicate 4096 0 in
-    let before = interpreted widths descriptor fresh (s .earlier) empty in
-    let area = areaAfter widths descriptor fresh (s .earlier) empty in
+    let before = interpreted widths descriptor sheetState (s .earlier) empty in
+    let area = areaAfter widths descriptor sheetState (s .earlier) empty in
     let after = interpreted widths descriptor (before .state) (s .part) area in
     sheet (s .width) (s .earlier) (before .answer) (s .part) (after .answer) (after .state .at .i) (after .state .at .b)
     (shownOf (outcome widths descriptor (before .state) (s .part) area))
@@ -147,10 +147,10 @@ found s =
 abbrev pub kept : Sheet → Sheet
 kept s = sheet (s .width) (s .earlier) (s .first) (s .part) (s .answer) (origin + s .i) (origin + s .b) (s .shown)
 
-pub sheets-hold : map found sheets ≡ map kept sheets
-unfolding sheets found descriptorFields stateFields types sequence element cutFrom cut bytesOf moved character characters cycle placeText placeRule place placed passedBy elementsBy admitted outcome interpreted areaAfter
+pub sheets-hold : map computed sheets ≡ map kept sheets
+unfolding sheets computed descriptorFields stateFields types sequence element cutFrom cut bytesOf moved character characters cycle placeText placeRule place placed passedBy elementsBy admitted outcome interpreted areaAfter
 sheets-hold = refl
 
-pub further-hold : map found further ≡ map kept further
-unfolding further found descriptorFields stateFields types sequence element cutFrom cut bytesOf moved character characters cycle placeText placeRule place placed passedBy elementsBy admitted outcome interpreted areaAfter
+pub further-hold : map computed further ≡ map kept further
+unfolding further computed descriptorFields stateFields types sequence element cutFrom cut bytesOf moved character characters cycle placeText placeRule place placed passedBy elementsBy admitted outcome interpreted areaAfter
 further-hold = refl

@@ -28,7 +28,7 @@ fn descriptor(increment: u32) -> Descriptor
 }
 
 // The state of a fresh job under that descriptor.
-pub fn fresh(increment: u32) -> State
+pub fn sheet_state(increment: u32) -> State
     ensures { λ r. ⌜ r ≡ begun increment ⌝ }
 {
     State {

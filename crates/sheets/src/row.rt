@@ -9,8 +9,8 @@ use super::show::show_number;
 use super::show::show_two;
 use part::shapes::Interpreted;
 use part::shapes::State;
-use part::sheet::fresh;
 use part::sheet::on_sheet;
+use part::sheet::sheet_state;
 
 fn show_part(part: &[u8]) {
     if part.len() == 0 {
@@ -49,7 +49,7 @@ pub fn sheet(mark: &[u8], hex: &[u8], beside: Beside) {
     let mut area = [0u8; 4096];
     say(b"| ");
     say(mark);
-    let r = submit(hex, 144, &mut area, fresh(240));
+    let r = submit(hex, 144, &mut area, sheet_state(240));
     say(b" | ");
     show_answer(r.answer);
     show_beside(beside, r.state, &area);
@@ -65,7 +65,7 @@ pub fn twice(hex: &[u8]) {
     say(b" twice | ");
     let end = decode(hex, n, &mut bytes);
     let mut area = [0u8; 4096];
-    let r = on_sheet(&bytes[..end], 144, 240, &mut area, fresh(240));
+    let r = on_sheet(&bytes[..end], 144, 240, &mut area, sheet_state(240));
     show_answer(r.answer);
     say(b" |\n");
 }
@@ -74,7 +74,7 @@ pub fn twice(hex: &[u8]) {
 pub fn two_parts(hex: &[u8], next: &[u8], beside: Beside) {
     let mut area = [0u8; 4096];
     say(b"| ");
-    let a = submit(hex, 144, &mut area, fresh(240));
+    let a = submit(hex, 144, &mut area, sheet_state(240));
     say(b", next part ");
     let b = submit(next, 144, &mut area, a.state);
     say(b" | ");
@@ -87,12 +87,12 @@ pub fn two_parts(hex: &[u8], next: &[u8], beside: Beside) {
 pub fn no_widths(hex: &[u8], other: &[u8]) {
     let mut area = [0u8; 4096];
     say(b"With all widths 0, ");
-    let r = submit(hex, 0, &mut area, fresh(240));
+    let r = submit(hex, 0, &mut area, sheet_state(240));
     say(b" gives ");
     show_answer(r.answer);
     say(b"; ");
     let mut another = [0u8; 4096];
-    let o = submit_count(other, 0, &mut another, fresh(240));
+    let o = submit_count(other, 0, &mut another, sheet_state(240));
     say(b" gives ");
     show_number(o.answer.code);
     say(b".\n");

@@ -17,8 +17,8 @@ use Rattle.listing.proofs.list.list.Tie as tie
 slice-aggregate-on-sheet : tie.Need-slice-aggregate-on-sheet
 slice-aggregate-on-sheet c = search needs
 
-fresh-requires : tie.Need-fresh-requires
-fresh-requires c κs = search needs
+sheet-state-requires : tie.Need-sheet-state-requires
+sheet-state-requires c κs = search needs
 
 on-sheet-requires : tie.Need-on-sheet-requires
 on-sheet-requires c κs = search needs
@@ -38,7 +38,7 @@ returns : tie.Need-returns
 returns c =
     let a = c .before .before .before .before .before .before .before .before .before .before .before .before .before .before .before .before .args in
     let part = now (a .part) in
-    let ran = rw (c .before .before .before .before .before .before .before .before .before .before .before .before .fresh .ensures) at (c .before .before .before .before .before .before .before .before .before .before .before .on-sheet .ensures) in
+    let ran = rw (c .before .before .before .before .before .before .before .before .before .before .before .before .sheet-state .ensures) at (c .before .before .before .before .before .before .before .before .before .before .before .on-sheet .ensures) in
     let r = c .before .before .before .before .before .before .before .before .before .before .before .on-sheet .result in
     let text = then (now (a .out)) _ _ 0 _ _ (partLine (length part)) (refusedLine r) (c .before .before .before .before .before .before .before .before .put-part .ensures) (c .before .before .put-refused .ensures) in
     let first = line-length «PART» (plain (length part) ∷ []) in
@@ -53,7 +53,7 @@ array-share-prefix-area : tie.Need-array-share-prefix-area
 array-share-prefix-area c =
     let a = c .before .before .before .before .before .before .before .before .before .before .before .before .before .before .args in
     let part = now (a .part) in
-    let ran = rw (c .before .before .before .before .before .before .before .before .before .before .fresh .ensures) at (c .before .before .before .before .before .before .before .before .before .on-sheet .ensures) in
+    let ran = rw (c .before .before .before .before .before .before .before .before .before .before .sheet-state .ensures) at (c .before .before .before .before .before .before .before .before .before .on-sheet .ensures) in
     let fits = used-fits part (c .before .before .before .before .before .before .before .before .before .on-sheet .result) _ (ran .0) (ran .1) (c .before .before .if1 .left) in
     omega (arith, fits, area-long part _ _ (ran .0) (ran .1), c .before .wide .ensures .0)
 
@@ -61,7 +61,7 @@ slice-aggregate-put-records : tie.Need-slice-aggregate-put-records
 slice-aggregate-put-records c =
     let a = c .before .before .before .before .before .before .before .before .before .before .before .before .before .before .before .args in
     let part = now (a .part) in
-    let ran = rw (c .before .before .before .before .before .before .before .before .before .before .before .fresh .ensures) at (c .before .before .before .before .before .before .before .before .before .before .on-sheet .ensures) in
+    let ran = rw (c .before .before .before .before .before .before .before .before .before .before .before .sheet-state .ensures) at (c .before .before .before .before .before .before .before .before .before .before .on-sheet .ensures) in
     let fits = used-fits part (c .before .before .before .before .before .before .before .before .before .before .on-sheet .result) _ (ran .0) (ran .1) (c .before .before .before .if1 .left) in
     sym (length-take-le (c .before .before .wide .result) _ (omega (arith, fits, area-long part _ _ (ran .0) (ran .1), c .before .before .wide .ensures .0)))
 
@@ -69,7 +69,7 @@ put-records-requires : tie.Need-put-records-requires
 put-records-requires c κs =
     let a = c .before .before .before .before .before .before .before .before .before .before .before .before .before .before .before .args in
     let part = now (a .part) in
-    let ran = rw (c .before .before .before .before .before .before .before .before .before .before .before .fresh .ensures) at (c .before .before .before .before .before .before .before .before .before .before .on-sheet .ensures) in
+    let ran = rw (c .before .before .before .before .before .before .before .before .before .before .before .sheet-state .ensures) at (c .before .before .before .before .before .before .before .before .before .before .on-sheet .ensures) in
     let fits = used-fits part (c .before .before .before .before .before .before .before .before .before .before .on-sheet .result) _ (ran .0) (ran .1) (c .before .before .before .if1 .left) in
     let wide = c .before .before .wide .ensures .0 in
     let long = area-long part _ _ (ran .0) (ran .1) in
@@ -81,7 +81,7 @@ put-end-requires : tie.Need-put-end-requires
 put-end-requires c κs =
     let a = c .before .before .before .before .before .before .before .before .before .before .before .before .before .before .before .before .before .before .before .args in
     let part = now (a .part) in
-    let ran = rw (c .before .before .before .before .before .before .before .before .before .before .before .before .before .before .before .fresh .ensures) at (c .before .before .before .before .before .before .before .before .before .before .before .before .before .before .on-sheet .ensures) in
+    let ran = rw (c .before .before .before .before .before .before .before .before .before .before .before .before .before .before .before .sheet-state .ensures) at (c .before .before .before .before .before .before .before .before .before .before .before .before .before .before .on-sheet .ensures) in
     let fits = used-fits part (c .before .before .before .before .before .before .before .before .before .before .before .before .before .before .on-sheet .result) _ (ran .0) (ran .1) (c .before .before .before .before .before .before .before .if1 .left) in
     let wide = c .before .before .before .before .before .before .wide .ensures .0 in
     let long = area-long part _ _ (ran .0) (ran .1) in
@@ -96,7 +96,7 @@ returns-2 : tie.Need-returns-2
 returns-2 c =
     let a = c .before .before .before .before .before .before .before .before .before .before .before .before .before .before .before .before .before .before .before .before .before .before .args in
     let part = now (a .part) in
-    let ran = rw (c .before .before .before .before .before .before .before .before .before .before .before .before .before .before .before .before .before .before .fresh .ensures) at (c .before .before .before .before .before .before .before .before .before .before .before .before .before .before .before .before .before .on-sheet .ensures) in
+    let ran = rw (c .before .before .before .before .before .before .before .before .before .before .before .before .before .before .before .before .before .before .sheet-state .ensures) at (c .before .before .before .before .before .before .before .before .before .before .before .before .before .before .before .before .before .on-sheet .ensures) in
     let r = c .before .before .before .before .before .before .before .before .before .before .before .before .before .before .before .before .before .on-sheet .result in
     let area = c .before .before .before .before .before .before .before .before .before .before .before .before .before .before .before .before .before .on-sheet .last .1 .1 .1 .0 in
     let fits = used-fits part r area (ran .0) (ran .1) (c .before .before .before .before .before .before .before .before .before .before .if1 .left) in
@@ -119,7 +119,7 @@ list-spec =
     tie.close
     (tie.spec
     slice-aggregate-on-sheet
-    fresh-requires
+    sheet-state-requires
     on-sheet-requires
     put-part-requires
     put-refused-requires
