@@ -4,3 +4,4 @@ pub mod Accounts
 pub mod Histories
 pub mod Promises
 pub mod Code
+pub mod Trials

@@ -1,0 +1,212 @@
+-- "Requests to try": rows for every line of "Requests and their order", each with all that is lent before and after.
+use Prim.Native.Nat.{ℕ, _-_}
+use mathlib.Core.Path.{_≡_, refl}
+use mathlib.Core.List.{List, [], _∷_, _++_, map}
+use lib.ListN.{replicate, length}
+use Rattle.part.specs.Ranges.{descriptorFields, stateFields}
+use Rattle.part.specs.Types.{types}
+use Rattle.part.specs.Reading.{sequence, element, cutFrom, cut}
+use Rattle.part.specs.Records.{bytesOf}
+use Rattle.part.specs.Presenting.{moved}
+use Rattle.part.specs.Text.{character, characters, cycle}
+use Rattle.part.specs.Place.{placeText, placeRule, place}
+use Rattle.part.specs.Part.{placed, passed, elements, admitted, outcome, interpreted, areaAfter}
+use Rattle.part.specs.Sheets.{hex, gives, widthTable, blank, on, stands, jobOf, job, halfway, start}
+use Rattle.part.specs.declared.shapes.Descriptor.{Descriptor}
+use Rattle.part.specs.declared.shapes.State.{State}
+use Rattle.part.specs.declared.shapes.Answer.{Answer}
+use Rattle.hub.specs.Entries.{entryFields, fresh, freshTable}
+use Rattle.hub.specs.Requests.{mayOpen, judged, maySubmit, mayClose, opening, closing, submitting, areaTaken, Hub, hub, Request, Open, Submit, Close, step, steps, countOpen}
+use Rattle.hub.specs.declared.jobs.Entry.{Entry}
+
+-- how many widths and what else is lent; requests before, and one; its answer, what is left, and the jobs that are open then
+pub record Step : Type 0 where
+  pub widths : ℕ
+  pub lent : Hub
+  pub earlier : List Request
+  pub request : Request
+  pub answer : Answer
+  pub left : Hub
+  pub jobs : ℕ
+
+-- a request with all that belongs to it; or a submit on one entry alone: its key, number and part, the entry afterwards and the answer
+pub data Asking : Type 0 where
+  asking : Step → Asking
+  lone : Entry → ℕ → ℕ → List ℕ → Entry → Answer → Asking
+
+-- key, mark, descriptor, state, next
+abbrev pub keeps : ℕ → ℕ → Descriptor → State → ℕ → Entry
+keeps key mark d s next = record { key = key; mark = mark; descriptor = d; state = s; next = next }
+
+-- the other slots': closed, with last key 9; and damaged, if it were open
+abbrev pub elsewhere : Entry
+elsewhere = keeps 9 0 (jobOf 0 0 0 0 0 0 0 0 0 0 0 0) (halfway (on 0 0) 5000) 0
+
+-- a table with one entry at a slot, among the others
+abbrev pub tableWith : ℕ → Entry → List Entry
+tableWith slot e = replicate slot elsewhere ++ e ∷ replicate (15 - slot) elsewhere
+
+-- the record buffer: slot 2 has bytes of its own in it, and records behind its 160 bytes used
+abbrev pub buffer : List ℕ → List ℕ
+buffer bytes = blank 8192 ++ replicate 160 0xDD ++ bytes ++ replicate (3936 - length bytes) 0xDD ++ blank 53248
+
+-- an open or a close on one slot's entry, beside a few record bytes: the entry afterwards, and the open jobs
+abbrev pub asks : ℕ → Entry → Request → ℕ → Entry → ℕ → Asking
+asks slot e r code after jobs = asking record {
+  widths = 1024;
+  lent = hub (tableWith slot e) (blank 8);
+  earlier = [];
+  request = r;
+  answer = gives code 0 0;
+  left = hub (tableWith slot after) (blank 8);
+  jobs = jobs;
+}
+
+-- a submit to slot 2: its answer, the entry afterwards and the records added
+abbrev pub submits : Entry → Request → Answer → Entry → List ℕ → ℕ → Asking
+submits e r a after records jobs = asking record {
+  widths = 1024;
+  lent = hub (tableWith 2 e) (buffer []);
+  earlier = [];
+  request = r;
+  answer = a;
+  left = hub (tableWith 2 after) (buffer records);
+  jobs = jobs;
+}
+
+-- a request that is refused for what is lent, or for its slot
+abbrev pub turned : ℕ → List Entry → List ℕ → Request → ℕ → ℕ → Asking
+turned widths table records r code jobs = asking record {
+  widths = widths;
+  lent = hub table records;
+  earlier = [];
+  request = r;
+  answer = gives code 0 0;
+  left = hub table records;
+  jobs = jobs;
+}
+
+-- a job under key 6 that stands at `start`; and as a job begins
+abbrev pub ongoing : ℕ → Entry
+ongoing next = keeps 6 1 job start next
+
+abbrev pub begins : ℕ → Entry
+begins key = keeps key 1 job (stands (on 10 20) 30 40 5 1 2 0xFF00 65535 0 0 0) 1
+
+-- a job that has ended
+abbrev pub ended : Entry
+ended = keeps 6 0 job start 4
+
+-- a job with a number out of range
+abbrev pub broken : Entry
+broken = keeps 6 1 job (halfway (on 100 90) 4097) 4
+
+abbrev pub badJob : Descriptor
+badJob = jobOf 5000 3000 10 20 30 40 5 1 2 0xFF00 60 128
+
+-- the part of one character, and its record after `start`
+abbrev pub aPart : List ℕ
+aPart = hex 0xC1
+
+abbrev pub itsRecord : List ℕ
+itsRecord = hex 0x1100_0100_6400_5A00_0100_0000_0600_3200_C1
+
+unfoldable pub trials : List Asking
+trials =
+    -- open: a new key, the greatest key, a table's first and last slot; a closed entry is never damaged
+    asks 3 ended (Open 3 7 job) 0 (begins 7) 1
+    ∷ asks 0 elsewhere (Open 0 4294967295 job) 0 (begins 4294967295) 1
+    ∷ asks 0 (begins 4294967295) (Open 0 4294967295 job) 1 (begins 4294967295) 1
+    ∷ asks 15 elsewhere (Open 15 10 job) 0 (begins 10) 1
+    -- a key not above the last; open under this key, and under others; a bad descriptor, last of all
+    ∷ asks 3 ended (Open 3 6 job) 14 ended 0
+    ∷ asks 3 ended (Open 3 5 badJob) 14 ended 0
+    ∷ asks 3 ended (Open 3 7 badJob) 15 ended 0
+    ∷ asks 3 (ongoing 4) (Open 3 6 badJob) 1 (ongoing 4) 1
+    ∷ asks 3 (ongoing 4) (Open 3 7 badJob) 13 (ongoing 4) 1
+    ∷ asks 3 (ongoing 4) (Open 3 5 job) 13 (ongoing 4) 1
+    -- damaged: a state, a descriptor, a mark, next; the ends of next are not; a damaged job is counted
+    ∷ asks 3 broken (Open 3 6 job) 12 broken 1
+    ∷ asks 3 (keeps 6 1 badJob start 4) (Open 3 7 job) 12 (keeps 6 1 badJob start 4) 1
+    ∷ asks 3 (keeps 6 2 job start 4) (Open 3 6 job) 12 (keeps 6 2 job start 4) 1
+    ∷ asks 3 (ongoing 0) (Open 3 6 job) 12 (ongoing 0) 1
+    ∷ asks 3 (ongoing 65537) (Open 3 6 job) 12 (ongoing 65537) 1
+    ∷ asks 3 (ongoing 1) (Open 3 6 job) 1 (ongoing 1) 1
+    ∷ asks 3 (ongoing 65536) (Open 3 6 job) 1 (ongoing 65536) 1
+    -- close: only the mark changes; closed already; another key; key 0; damaged
+    ∷ asks 3 (ongoing 4) (Close 3 6) 0 ended 0
+    ∷ asks 3 ended (Close 3 6) 1 ended 0
+    ∷ asks 3 ended (Close 3 5) 16 ended 0
+    ∷ asks 3 (ongoing 4) (Close 3 5) 16 (ongoing 4) 1
+    ∷ asks 3 (keeps 0 1 job start 4) (Close 3 0) 0 (keeps 0 0 job start 4) 0
+    ∷ asks 3 (keeps 0 0 job start 4) (Close 3 0) 16 (keeps 0 0 job start 4) 0
+    ∷ asks 3 broken (Close 3 6) 12 broken 1
+    -- submit: the next number, also the last one; a number resent, a gap, a bad one
+    ∷ submits (ongoing 4) (Submit 2 6 4 aPart) (gives 0 1 17) (keeps 6 1 job (halfway (on 555 90) 177) 5) itsRecord 1
+    ∷ submits (ongoing 4) (Submit 2 6 3 aPart) (gives 1 0 0) (ongoing 4) [] 1
+    ∷ lone (ongoing 65535) 6 65535 [] (ongoing 65536) (gives 0 0 0)
+    ∷ lone (ongoing 65536) 6 65535 aPart (ongoing 65536) (gives 1 0 0)
+    ∷ lone (ongoing 4) 6 5 aPart (ongoing 4) (gives 18 0 0)
+    ∷ lone (ongoing 4) 6 0 aPart (ongoing 4) (gives 17 0 0)
+    ∷ lone (ongoing 65536) 6 65536 aPart (ongoing 65536) (gives 17 0 0)
+    -- closed, or another key; damaged; the part's own answers
+    ∷ lone ended 6 4 aPart ended (gives 16 0 0)
+    ∷ lone (ongoing 4) 7 0 aPart (ongoing 4) (gives 16 0 0)
+    ∷ lone broken 7 4 aPart broken (gives 12 0 0)
+    ∷ lone (ongoing 4) 6 4 (replicate 8193 0x2B) (ongoing 4) (gives 19 0 0)
+    ∷ submits (ongoing 4) (Submit 2 6 4 (hex 0xC1_2BD304C68000)) (gives 24 1 0) (ongoing 4) [] 1
+    -- 10 before 11, and 11 before the entry; open and close are lent the table only; another length counts 0
+    ∷ turned 1024 (replicate 15 (ongoing 4)) [] (Open 16 7 job) 10 0
+    ∷ turned 1024 (replicate 17 (ongoing 4)) [] (Close 3 6) 10 0
+    ∷ turned 1024 (replicate 16 (ongoing 4)) [] (Open 16 7 badJob) 11 16
+    ∷ turned 1024 (replicate 16 broken) [] (Close 16 6) 11 16
+    ∷ turned 1024 (replicate 16 broken) (buffer []) (Submit 16 6 4 aPart) 11 16
+    ∷ turned 1024 (replicate 15 (ongoing 4)) (buffer []) (Submit 16 6 4 aPart) 10 0
+    ∷ turned 1024 (replicate 16 (ongoing 4)) (blank 65535) (Submit 16 6 4 aPart) 10 16
+    ∷ turned 1024 (replicate 16 (ongoing 4)) (blank 65537) (Submit 2 6 4 aPart) 10 16
+    ∷ turned 1023 (replicate 16 (ongoing 4)) (buffer []) (Submit 16 6 4 aPart) 10 16
+    -- a fresh table: closed, with last key 0
+    ∷ asking record {
+      widths = 1024;
+      lent = hub freshTable [];
+      earlier = [];
+      request = Close 0 0;
+      answer = gives 16 0 0;
+      left = hub (replicate 16 (keeps 0 0 (jobOf 0 0 0 0 0 0 0 0 0 0 0 0) (stands (on 0 0) 0 0 0 0 0 0 65535 0 0 0) 1)) [];
+      jobs = 0;
+    }
+    -- one request after the other
+    ∷ asking record {
+      widths = 1024;
+      lent = hub (tableWith 2 (ongoing 4)) [];
+      earlier = Close 2 6 ∷ Open 2 7 job ∷ [];
+      request = Open 3 10 job;
+      answer = gives 0 0 0;
+      left = hub (replicate 2 elsewhere ++ begins 7 ∷ begins 10 ∷ replicate 12 elsewhere) [];
+      jobs = 2;
+    }
+    ∷ []
+
+-- a row as the definitions have it
+unfoldable pub stepTaken : Step → Step
+stepTaken a =
+    let r = step (widthTable (a .widths)) (steps (widthTable (a .widths)) (a .lent) (a .earlier)) (a .request) in
+    record {
+      widths = a .widths;
+      lent = a .lent;
+      earlier = a .earlier;
+      request = a .request;
+      answer = r .answer;
+      left = r .after;
+      jobs = countOpen (r .after .table);
+    }
+
+unfoldable pub asked : Asking → Asking
+asked (asking a) = asking (stepTaken a)
+asked (lone e key number part after a) =
+    let r = submitting (widthTable 1024) key number part (blank 4096) e in
+    lone e key number part (r .entry) (r .answer)
+
+pub trials-hold : map asked trials ≡ trials
+unfolding trials asked stepTaken step steps countOpen opening closing submitting areaTaken mayOpen judged maySubmit mayClose entryFields fresh descriptorFields stateFields types sequence element cutFrom cut bytesOf moved character characters cycle placeText placeRule place placed passed elements admitted outcome interpreted areaAfter
+trials-hold = refl
