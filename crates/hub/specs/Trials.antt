@@ -10,7 +10,7 @@ use Rattle.part.specs.Records.{bytesOf}
 use Rattle.part.specs.Presenting.{moved}
 use Rattle.part.specs.Text.{character, characters, cycle}
 use Rattle.part.specs.Place.{placeText, placeRule, place}
-use Rattle.part.specs.Part.{placed, passed, elements, admitted, outcome, interpreted, areaAfter}
+use Rattle.part.specs.Part.{placed, passedBy, elementsBy, admitted, outcome, interpreted, areaAfter}
 use Rattle.part.specs.Sheets.{hex, gives, widthTable, blank, on, stands, jobOf, job, halfway, start}
 use Rattle.part.specs.declared.shapes.Descriptor.{Descriptor}
 use Rattle.part.specs.declared.shapes.State.{State}
@@ -93,9 +93,9 @@ ongoing next = keeps 6 1 job start next
 abbrev pub begins : ℕ → Entry
 begins key = keeps key 1 job (stands (on 10 20) 30 40 5 1 2 0xFF00 65535 0 0 0) 1
 
--- a job that has ended
-abbrev pub ended : Entry
-ended = keeps 6 0 job start 4
+-- a job that was closed
+abbrev pub shut : Entry
+shut = keeps 6 0 job start 4
 
 -- a job with a number out of range
 abbrev pub broken : Entry
@@ -114,14 +114,14 @@ itsRecord = hex 0x1100_0100_6400_5A00_0100_0000_0600_3200_C1
 unfoldable pub trials : List Asking
 trials =
     -- open: a new key, the greatest key, a table's first and last slot; a closed entry is never damaged
-    asks 3 ended (Open 3 7 job) 0 (begins 7) 1
+    asks 3 shut (Open 3 7 job) 0 (begins 7) 1
     ∷ asks 0 elsewhere (Open 0 4294967295 job) 0 (begins 4294967295) 1
     ∷ asks 0 (begins 4294967295) (Open 0 4294967295 job) 1 (begins 4294967295) 1
     ∷ asks 15 elsewhere (Open 15 10 job) 0 (begins 10) 1
     -- a key not above the last; open under this key, and under others; a bad descriptor, last of all
-    ∷ asks 3 ended (Open 3 6 job) 14 ended 0
-    ∷ asks 3 ended (Open 3 5 badJob) 14 ended 0
-    ∷ asks 3 ended (Open 3 7 badJob) 15 ended 0
+    ∷ asks 3 shut (Open 3 6 job) 14 shut 0
+    ∷ asks 3 shut (Open 3 5 badJob) 14 shut 0
+    ∷ asks 3 shut (Open 3 7 badJob) 15 shut 0
     ∷ asks 3 (ongoing 4) (Open 3 6 badJob) 1 (ongoing 4) 1
     ∷ asks 3 (ongoing 4) (Open 3 7 badJob) 13 (ongoing 4) 1
     ∷ asks 3 (ongoing 4) (Open 3 5 job) 13 (ongoing 4) 1
@@ -134,9 +134,9 @@ trials =
     ∷ asks 3 (ongoing 1) (Open 3 6 job) 1 (ongoing 1) 1
     ∷ asks 3 (ongoing 65536) (Open 3 6 job) 1 (ongoing 65536) 1
     -- close: only the mark changes; closed already; another key; key 0; damaged
-    ∷ asks 3 (ongoing 4) (Close 3 6) 0 ended 0
-    ∷ asks 3 ended (Close 3 6) 1 ended 0
-    ∷ asks 3 ended (Close 3 5) 16 ended 0
+    ∷ asks 3 (ongoing 4) (Close 3 6) 0 shut 0
+    ∷ asks 3 shut (Close 3 6) 1 shut 0
+    ∷ asks 3 shut (Close 3 5) 16 shut 0
     ∷ asks 3 (ongoing 4) (Close 3 5) 16 (ongoing 4) 1
     ∷ asks 3 (keeps 0 1 job start 4) (Close 3 0) 0 (keeps 0 0 job start 4) 0
     ∷ asks 3 (keeps 0 0 job start 4) (Close 3 0) 16 (keeps 0 0 job start 4) 0
@@ -150,7 +150,7 @@ trials =
     ∷ lone (ongoing 4) 6 0 aPart (ongoing 4) (gives 17 0 0)
     ∷ lone (ongoing 65536) 6 65536 aPart (ongoing 65536) (gives 17 0 0)
     -- closed, or another key; damaged; the part's own answers
-    ∷ lone ended 6 4 aPart ended (gives 16 0 0)
+    ∷ lone shut 6 4 aPart shut (gives 16 0 0)
     ∷ lone (ongoing 4) 7 0 aPart (ongoing 4) (gives 16 0 0)
     ∷ lone broken 7 4 aPart broken (gives 12 0 0)
     ∷ lone (ongoing 4) 6 4 (replicate 8193 0x2B) (ongoing 4) (gives 19 0 0)
@@ -208,5 +208,5 @@ asked (lone e key number part after a) =
     lone e key number part (r .entry) (r .answer)
 
 pub trials-hold : map asked trials ≡ trials
-unfolding trials asked stepTaken step steps countOpen opening closing submitting areaTaken mayOpen judged maySubmit mayClose entryFields fresh descriptorFields stateFields types sequence element cutFrom cut bytesOf moved character characters cycle placeText placeRule place placed passed elements admitted outcome interpreted areaAfter
+unfolding trials asked stepTaken step steps countOpen opening closing submitting areaTaken mayOpen judged maySubmit mayClose entryFields fresh descriptorFields stateFields types sequence element cutFrom cut bytesOf moved character characters cycle placeText placeRule place placed passedBy elementsBy admitted outcome interpreted areaAfter
 trials-hold = refl
