@@ -15,6 +15,7 @@ use Rattle.part.specs.Records.{Item, textItem, ruleItem, bytesOf, isWhol
 use Rattle.part.specs.Presenting.{moved}
 use Rattle.part.specs.Text.{character, characters, cycle}
 use Rattle.part.specs.Place.{Effect, placeText, placeRule, place}
+use Rattle.part.specs.Drawing.{allOnSheet}
 use Rattle.part.specs.Part.{placed, passedBy, elementsBy, elements, admitted, outcome, interpreted, areaAfter}
 use Rattle.part.specs.declared.shapes.Point.{Point}
 use Rattle.part.specs.declared.shapes.Descriptor.{Descriptor}
@@ -482,3 +483,61 @@ readAgain r = reads (r .bytes) (isWhole (r .bytes)) (boundaries (r .bytes))
 pub read-back-hold : map readAgain readBack ≡ readBack
 unfolding readBack boundaries
 read-back-hold = refl
+
+-- ---- records that lie on the sheet, and beyond it by one
+
+-- items under `job`, and whether all of them lie on its sheet
+pub record Lying : Type 0 where
+  pub items : List Item
+  pub lie : Bool
+
+abbrev pub lying : List Item → Bool → Lying
+lying items lie = record { items = items; lie = lie }
+
+-- place, adjustment and direction, variable space, characters; in font 1
+abbrev pub aText : Point → ℕ → ℕ → ℕ → ℕ → Item
+aText p amount direction space cs =
+    textItem record { at = p; font = 1; colour = 0; adjustment = amount; direction = direction; space = space; characters = hex cs }
+
+-- place, mark; 1,000 long and 60 wide
+abbrev pub aRule : Point → ℕ → Item
+aRule p mark = ruleItem record { at = p; mark = mark; colour = 0; len = 1000; width = 60 }
+
+unfoldable pub lyings : List Lying
+lyings =
+    -- one character on each edge: C1 is 449 wide, and X'40' 320 or the variable space
+    lying (aText (on 4551 3000) 6 0 50 0xC1 ∷ []) true
+    ∷ lying (aText (on 4552 3000) 6 0 50 0xC1 ∷ []) false
+    ∷ lying (aText (on 4551 3001) 6 0 50 0xC1 ∷ []) false
+    ∷ lying (aText (on 0 0) 6 0 50 0xC1 ∷ []) true
+    ∷ lying (aText (keptAs 32767 32768) 6 0 50 0xC1 ∷ []) false
+    ∷ lying (aText (keptAs 32768 32767) 6 0 50 0xC1 ∷ []) false
+    ∷ lying (aText (on 4950 0) 6 0 50 0x40 ∷ []) true
+    ∷ lying (aText (on 4951 0) 6 0 50 0x40 ∷ []) false
+    ∷ lying (aText (on 4680 0) 6 0 65535 0x40 ∷ []) true
+    ∷ lying (aText (on 4681 0) 6 0 65535 0x40 ∷ []) false
+    -- the second behind the advance of the first
+    ∷ lying (aText (on 4096 0) 6 0 50 0xC1C1 ∷ []) true
+    ∷ lying (aText (on 4097 0) 6 0 50 0xC1C1 ∷ []) false
+    ∷ lying (aText (on 4108 0) 6 1 50 0xC1C1 ∷ []) true
+    ∷ lying (aText (on 4109 0) 6 1 50 0xC1C1 ∷ []) false
+    ∷ lying (aText (on 400 0) 4095 1 50 0xC1C1 ∷ []) false
+    ∷ lying (aRule (on 4000 2940) 0 ∷ []) true
+    ∷ lying (aRule (on 4001 2940) 0 ∷ []) false
+    ∷ lying (aRule (on 4000 2941) 0 ∷ []) false
+    ∷ lying (aRule (on 4940 2000) 1 ∷ []) true
+    ∷ lying (aRule (on 4941 2000) 1 ∷ []) false
+    ∷ lying (aRule (on 4940 2001) 1 ∷ []) false
+    -- all of some items
+    ∷ lying [] true
+    ∷ lying (aText (on 0 0) 6 0 50 0xC1 ∷ aRule (on 0 0) 0 ∷ []) true
+    ∷ lying (aText (on 0 0) 6 0 50 0xC1 ∷ aRule (on 4001 0) 0 ∷ []) false
+    ∷ []
+
+-- such a row as the definitions have it
+abbrev pub lain : Lying → Lying
+lain l = lying (l .items) (allOnSheet (widthTable 1024) job (l .items))
+
+pub lyings-hold : map lain lyings ≡ lyings
+unfolding lyings
+lyings-hold = refl
