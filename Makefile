@@ -1,5 +1,5 @@
 # `make run` lists a real part and draws its page; `make test` is the gate. `make help` names the rest.
-.PHONY: run test check lib listing page elements replay soak bench lines sheets help clean
+.PHONY: run test check lib listing page elements replay soak bench lines sheets points help clean
 
 # text and rules on one sheet, by a composer outside this project
 SHOWN = tests/real/c-table-p01o01x01.part
@@ -61,6 +61,10 @@ bench: lib $(HERE)
 	@cargo build --quiet --offline --release --target-dir build/cargo --manifest-path bench/Cargo.toml
 	@build/cargo/release/bench $(BENCH)
 
+# one-point changes to the rule book, each of which its rows must refuse
+points:
+	python3 tests/points/points.py $(POINTS)
+
 # the counts in docs/READING.md, after files have changed
 lines:
 	tools/lines docs/READING.md
@@ -70,6 +74,7 @@ help:
 	@echo 'make test               the gate: every proof, every wrong program refused, every test'
 	@echo 'make check              every proof once'
 	@echo 'make sheets             the table of "Sheets to try", by the compiled interpreter'
+	@echo 'make points             one-point changes to the rule book: its rows refuse each; POINTS=Ranges tries one file of it'
 	@echo 'make lib                build/libhalviruso.a, for hosts in C, C++ and Rust'
 	@echo 'make listing            target/bin/listing'
 	@echo 'make page PART=file     build/page.svg, the sheet of a part'

@@ -34,12 +34,12 @@ def used(spec):
 
 def reached(*specs):
     """Some spec files and all that they stand on."""
-    known, todo = set(), list(specs)
-    while todo:
-        spec = todo.pop()
+    known, ahead = set(), list(specs)
+    while ahead:
+        spec = ahead.pop()
         if spec not in known:
             known.add(spec)
-            todo += used(spec)[0]
+            ahead += used(spec)[0]
     return known
 
 
