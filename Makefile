@@ -1,6 +1,9 @@
 # `make run` lists a real part and draws its page; `make test` is the gate. `make help` names the rest.
 .PHONY: run test check lib listing page elements replay soak bench lines sheets points help clean
 
+# what a failed recipe leaves is not a product
+.DELETE_ON_ERROR:
+
 # text and rules on one sheet, by a composer outside this project
 SHOWN = tests/real/c-table-p01o01x01.part
 PART ?= $(SHOWN)
@@ -15,26 +18,31 @@ test:
 check:
 	rt check
 
+# the sources of some crates
+code = $(shell find $(addprefix crates/,$(1)) -name '*.rt' -o -name '*.antt') crates.txt
+
 # document 01's "Sheets to try", each row through the interpreter
-sheets:
-	rt check sheets
-	@cat target/log/sheets.stdout
+sheets: target/bin/sheets
+	@. tools/x86_64.sh && $$LOAD target/bin/sheets
+target/bin/sheets: $(call code,part sheets)
+	@tools/prove check sheets
 
 # build/libhalviruso.a: the proved library for C, C++ and Rust hosts
-CODE = $(shell find crates/part crates/hub crates/host -name '*.rt' -o -name '*.antt')
 lib: build/libhalviruso.a
-build/libhalviruso.a: $(CODE) crates.txt tools/archive tools/x86_64.sh
-	tools/archive
+build/libhalviruso.a: $(call code,part hub host) tools/archive tools/prove tools/x86_64.sh
+	@tools/archive
 
 # target/bin/listing: the listing program
-listing:
-	@[ -x target/bin/listing ] || echo 'proving the listing program: some three minutes, once'
-	@rt check listing | tail -n 1
+listing: target/bin/listing
+target/bin/listing: $(call code,part listing)
+	@tools/prove check listing
 
 # build/page.svg: the sheet as the listing of a part has it; a refusal is marked on the part's bytes
-page: listing
-	@mkdir -p build
-	@. tools/x86_64.sh && $$LOAD target/bin/listing < "$(PART)" > build/page.listing
+page:
+	@mkdir -p build && rm -f build/page.listing build/page.svg
+	@$(MAKE) -s listing
+	@tools/list < "$(PART)" > build/page.new
+	@mv build/page.new build/page.listing
 	@python3 tools/page build/page.listing --part "$(PART)" --output build/page.svg
 	@echo "build/page.svg shows $(PART)"
 
@@ -44,8 +52,8 @@ elements:
 	@. tools/x86_64.sh && python3 tools/elements --run "$$RUN" "$(PART)"
 
 # build/replay: replay scripts on the proved library; build/replay --peer: on the second implementation
-replay: lib
-	replay/build
+replay:
+	@replay/build
 
 # compares the two for SECONDS from a new seed, which it prints; SEED=s goes on from that one instead
 SECONDS = 60
@@ -56,7 +64,7 @@ soak: replay
 # times beside the second implementation's and plain C's; where the archive can't run, of the library compiled for this processor
 HERE = $(if $(filter x86_64,$(shell uname -m)),,build/here/libhalviruso.a)
 build/here/libhalviruso.a: build/libhalviruso.a bench/here bench/here.py
-	bench/here
+	@bench/here
 bench: lib $(HERE)
 	@cargo build --quiet --offline --release --target-dir build/cargo --manifest-path bench/Cargo.toml
 	@build/cargo/release/bench $(BENCH)

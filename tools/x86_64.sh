@@ -4,6 +4,7 @@
 if [ "$(uname -m)" = x86_64 ]; then
     CC=gcc CXX=g++ AR=ar RUN='' LOAD=''
 else
+    command -v rt >/dev/null || { echo 'rt, the Rattle toolchain, is not on the PATH, and its emulator runs what is made for x86-64' >&2 && exit 1; }
     CC=x86_64-linux-gnu-gcc CXX=x86_64-linux-gnu-g++ AR=x86_64-linux-gnu-ar
     kit=$(dirname "$(dirname "$(readlink -f "$(command -v rt)")")")
     RUN=$kit/on/$(uname -m)/toolchain/bin/qemu-x86_64

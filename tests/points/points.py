@@ -7,6 +7,7 @@ RT names the program to call for `rt`. The last line has the score, and the stat
 import concurrent.futures
 import os
 import re
+import shutil
 import subprocess
 import sys
 import tempfile
@@ -85,6 +86,8 @@ def tried(changes):
 
 def main(names):
     changes = asked(names)
+    if not shutil.which(os.environ.get('RT', 'rt')):
+        sys.exit('rt, the Rattle toolchain, is not on the PATH: nothing can be tried')
     if not check([None])[0]:
         sys.exit('the rule book as it stands is not proved')
     refused = accepted = wrong = 0

@@ -1,12 +1,14 @@
 #!/bin/sh
 # Writes the walks of crates/hub/src/table.rt again: one command for each function. With a folder as its argument, there.
+set -eu
 here=$(cd "$(dirname "$0")" && pwd)
 cd "${1:-$here/../../crates/hub/proofs/table}" || exit 1
 write() {
     kind=$1
     shift
     mkdir -p "$1"
-    python3 "$here/gen_$kind.py" "$@" > "$1/Proof.antt"
+    python3 "$here/gen_$kind.py" "$@" > "$1/Proof.new"
+    mv "$1/Proof.new" "$1/Proof.antt"
 }
 write thin halviruso_open entries::open_entry "table: &mut [Entry], slot: u32, key: u32, d: Descriptor" "key, d" "Open slot key d"
 write thin halviruso_submit --requires --sizes "records=65536, widths=1024" submit::submit_slot \
