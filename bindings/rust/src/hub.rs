@@ -6,29 +6,20 @@ use crate::ffi::{self, Lent};
 use crate::shapes::{Descriptor, Entry, Table};
 use crate::{Answer, Records, AREA, RECORDS, SLOTS, WIDTHS};
 
-/// Sixteen slots for jobs, their records and the width table.
+/// Sixteen slots for jobs, and their records.
 ///
-/// A request takes the hub by `&mut`, so two never run on one table at once.
+/// A request takes the hub by `&mut`, so two never run on one table at once; threads
+/// share a hub behind a lock.
 #[derive(Clone)]
 pub struct Hub {
     table: Box<Table>,
     records: Box<[u8; RECORDS]>,
-    widths: Box<[u16; WIDTHS]>,
 }
 
 impl Hub {
-    /// A fresh table, zeroed records, and every character of every font 144 wide.
+    /// A fresh table and zeroed records.
     pub fn new() -> Self {
-        Self::with_widths(&[144; WIDTHS])
-    }
-
-    /// A fresh table and zeroed records; font f's code point c is `widths[256 * f + c]` wide.
-    pub fn with_widths(widths: &[u16; WIDTHS]) -> Self {
-        Self {
-            table: Box::new(ffi::fresh()),
-            records: Box::new([0; RECORDS]),
-            widths: Box::new(*widths),
-        }
+        Self { table: Box::new(ffi::fresh()), records: Box::new([0; RECORDS]) }
     }
 
     /// Opens a job in a slot under a key, which must be above every key that the slot has had.
@@ -37,10 +28,19 @@ impl Hub {
     }
 
     /// Submits part `number` of the job; the first is 1. Send it again, with the same number, until it is answered.
-    pub fn submit(&mut self, slot: u32, key: u32, number: u32, part: &[u8]) -> Answer {
-        let Self { table, records, widths } = self;
-        let lent = Lent { table, records: &mut records[..], widths: &widths[..] };
-        ffi::submit(lent, slot, key, number, part)
+    ///
+    /// Font f's code point c is `widths[256 * f + c]` wide. What a job holds is promised
+    /// for one width table through all of its parts; another job may have another.
+    pub fn submit(
+        &mut self,
+        widths: &[u16; WIDTHS],
+        slot: u32,
+        key: u32,
+        number: u32,
+        part: &[u8],
+    ) -> Answer {
+        let Self { table, records } = self;
+        ffi::submit(Lent { table, records: &mut records[..], widths }, slot, key, number, part)
     }
 
     /// Closes the job of this key. Its records stay until the slot's next job writes over them.
@@ -48,9 +48,19 @@ impl Hub {
         ffi::close(&mut self.table, slot, key)
     }
 
-    /// How many jobs are open.
+    /// How many jobs are open, damaged ones included.
     pub fn count(&self) -> u32 {
         ffi::count(&self.table)
+    }
+
+    /// The records of a slot's job in the order of its parts, of a closed job too; none above slot 15.
+    ///
+    /// Before the first step, `rest` has their bytes.
+    pub fn records(&self, slot: u32) -> Records<'_> {
+        let used = self.entry(slot).map_or(0, |entry| entry.state.used as usize);
+        let area: &[u8] = self.area(slot).map_or(&[], |area| area);
+        // A damaged entry can say more than there is.
+        Records::new(&area[..used.min(area.len())])
     }
 
     /// A slot's entry, of an open job or of the last one; `None` above slot 15.
@@ -59,21 +69,8 @@ impl Hub {
     }
 
     /// All of a slot's 4,096 record bytes, in use or not; `None` above slot 15.
-    pub fn area(&self, slot: u32) -> Option<&[u8]> {
-        self.records.chunks_exact(AREA).nth(slot as usize)
-    }
-
-    /// The records of a slot's job in the order of its parts, of a closed job too; none above slot 15.
-    pub fn records(&self, slot: u32) -> Records<'_> {
-        let used = self.entry(slot).map_or(0, |entry| entry.state.used as usize);
-        let area = self.area(slot).unwrap_or_default();
-        // A damaged entry can say more than there is.
-        Records::new(&area[..used.min(area.len())])
-    }
-
-    /// The width table.
-    pub fn widths(&self) -> &[u16; WIDTHS] {
-        &self.widths
+    pub fn area(&self, slot: u32) -> Option<&[u8; AREA]> {
+        self.records.chunks_exact(AREA).nth(slot as usize)?.try_into().ok()
     }
 }
 
@@ -113,7 +110,7 @@ mod tests {
     fn opened() -> Hub {
         let mut hub = Hub::new();
         assert_eq!(hub.open(15, 1, SHEET).code, Code::DONE);
-        let answer = hub.submit(15, 1, 1, b"\x2B\xD3\x04\xE4\x05\xA0\xC1");
+        let answer = hub.submit(&[144; WIDTHS], 15, 1, 1, b"\x2B\xD3\x04\xE4\x05\xA0\xC1");
         assert_eq!((answer.code, answer.first, answer.second), (Code::DONE, 2, 33));
         hub
     }
@@ -126,7 +123,7 @@ mod tests {
             // What follows the two records is zeros, and a length of 0 ends the walk.
             assert_eq!(hub.records(15).count(), 2);
         }
-        assert_eq!(hub.submit(15, 1, 2, b"").code, Code::DAMAGED);
+        assert_eq!(hub.submit(&[144; WIDTHS], 15, 1, 2, b"").code, Code::DAMAGED);
         assert_eq!(hub.close(15, 1).code, Code::DAMAGED);
         assert_eq!(hub.count(), 1);
     }
@@ -157,7 +154,7 @@ mod tests {
             assert_eq!((hub.entry(slot), hub.area(slot)), (None, None));
             assert_eq!(hub.records(slot).count(), 0);
         }
-        assert_eq!(hub.area(15).map(<[u8]>::len), Some(AREA));
+        assert_eq!(hub.area(15).map(|area| area.len()), Some(AREA));
     }
 
     #[test]

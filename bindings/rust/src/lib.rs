@@ -1,12 +1,15 @@
 //! A text hub for print shops whose every answer is proved, for hosts written in Rust.
 //!
 //! Tenants open jobs and send PTOCA presentation text in numbered parts; the hub
-//! places each part as text and rule records, which printers read. [`Hub`] owns
-//! the memory that the library is lent, and hands on what the library answers:
-//! nothing here decides anything.
+//! places each part as text and rule records, which printers read. [`Hub`] owns the
+//! table and the record buffer that the library is lent, and hands on what the library
+//! answers: nothing here decides anything. The width table is the host's, lent with
+//! each part. What to do about each answer stands in `docs/HOSTS.md`.
+//!
+//! # A job from open to close
 //!
 //! ```
-//! use halviruso::{Code, Descriptor, Hub, Point, Record};
+//! use halviruso::{Code, Descriptor, Hub, Point, Record, WIDTHS};
 //!
 //! // US letter in 1/1440 inch, six lines to the inch; every character is 144 wide.
 //! let sheet = Descriptor {
@@ -16,34 +19,50 @@
 //!     rule: 14,
 //!     ..Descriptor::default()
 //! };
+//! let widths = [144; WIDTHS];
 //! let mut hub = Hub::new();
 //! assert_eq!(hub.open(3, 7, sheet).code, Code::DONE);
 //!
 //! // AMI 720 and AMB 480 in a chain, then two characters: three elements, 18 record bytes.
 //! let part = b"\x2B\xD3\x04\xC7\x02\xD0\x04\xD2\x01\xE0\xC1\xC2";
-//! let answer = hub.submit(3, 7, 1, part);
+//! let answer = hub.submit(&widths, 3, 7, 1, part);
 //! assert_eq!((answer.code, answer.first, answer.second), (Code::DONE, 3, 18));
 //!
 //! // No reply in time? The same request again is safe.
-//! assert_eq!(hub.submit(3, 7, 1, part).code, Code::ALREADY_TAKEN);
+//! assert_eq!(hub.submit(&widths, 3, 7, 1, part).code, Code::ALREADY_TAKEN);
 //!
-//! let records: Vec<Record> = hub.records(3).collect();
-//! assert_eq!(
-//!     records,
-//!     [Record::Text {
-//!         i: 720,
-//!         b: 480,
-//!         font: 0,
-//!         colour: 0xFF07,
-//!         adjustment: 0,
-//!         space: None,
-//!         characters: b"\xC1\xC2",
-//!     }]
-//! );
+//! // A refusal changes nothing: the part is mended and sent under the same number.
+//! let answer = hub.submit(&widths, 3, 7, 2, b"\x2B\xD3\x04\xC6\x2F\x41\xC1");
+//! assert_eq!(answer.to_string(), "27, outside; 6, 0");
+//! let rule = b"\x2B\xD3\x04\xE4\x05\xA0";
+//! assert_eq!(hub.submit(&widths, 3, 7, 2, rule).code, Code::DONE);
+//!
+//! let printed: Vec<String> = hub.records(3).map(|record| match record {
+//!     Record::Text { i, b, characters, .. } => format!("text at {i}, {b}: {characters:X?}"),
+//!     Record::Rule { i, b, length, width, .. } => format!("rule at {i}, {b}: {length} by {width}"),
+//! }).collect();
+//! assert_eq!(printed, ["text at 720, 480: [C1, C2]", "rule at 1008, 480: 1440 by 14"]);
 //!
 //! assert_eq!(hub.count(), 1);
 //! assert_eq!(hub.close(3, 7).code, Code::DONE);
-//! assert_eq!(hub.submit(3, 7, 2, part).to_string(), "16, no such job; 0, 0");
+//! assert_eq!(hub.submit(&widths, 3, 7, 3, part).to_string(), "16, no such job; 0, 0");
+//! ```
+//!
+//! # Jobs with different width tables
+//!
+//! Each part is placed by the table that it is submitted with. The host remembers which
+//! is a job's, and lends the same one from its first part to its last.
+//!
+//! ```
+//! # use halviruso::{Code, Descriptor, Hub, Point, WIDTHS};
+//! # let sheet = Descriptor { size: Point { i: 12_240, b: 15_840 }, ..Descriptor::default() };
+//! # let mut hub = Hub::new();
+//! let fonts = [[72; WIDTHS], [144; WIDTHS]];
+//! for (slot, widths) in (0..).zip(&fonts) {
+//!     assert_eq!(hub.open(slot, 1, sheet).code, Code::DONE);
+//!     assert_eq!(hub.submit(widths, slot, 1, 1, b"\xC1\xC2\xC3").code, Code::DONE);
+//! }
+//! assert_eq!((hub.entry(0).unwrap().state.i(), hub.entry(1).unwrap().state.i()), (216, 432));
 //! ```
 
 #![deny(missing_docs)]

@@ -5,6 +5,9 @@ use halviruso::{
     ORIGIN, PART, WIDTHS,
 };
 
+/// Every character is a tenth of an inch wide.
+static TENTH: [u16; WIDTHS] = [144; WIDTHS];
+
 fn sheet() -> Descriptor {
     Descriptor {
         size: Point { i: 12_240, b: 15_840 },
@@ -79,12 +82,15 @@ fn requests_get_their_codes() {
     assert_eq!(hub.open(0, 1, sheet()).code, Code::DONE);
     assert_eq!(hub.open(0, 1, sheet()).code, Code::ALREADY_TAKEN);
     assert_eq!(hub.open(0, 2, sheet()).code, Code::BUSY);
-    assert_eq!(hub.submit(0, 2, 1, b"").code, Code::NO_JOB);
-    assert_eq!(hub.submit(0, 1, 0, b"").code, Code::BAD_NUMBER);
-    assert_eq!(hub.submit(0, 1, 2, b"").code, Code::GAP);
-    assert_eq!(hub.submit(0, 1, 1, &[0xC1; PART + 1]).code, Code::LONG_PART);
-    assert_eq!(hub.submit(0, 1, 1, b"\x2B\xD3\x04\xC6\x2F\x41\xC1"), answer(Code::OUTSIDE, 6, 0));
-    assert_eq!(hub.submit(0, 1, 1, b""), answer(Code::DONE, 0, 0));
+    assert_eq!(hub.submit(&TENTH, 0, 2, 1, b"").code, Code::NO_JOB);
+    assert_eq!(hub.submit(&TENTH, 0, 1, 0, b"").code, Code::BAD_NUMBER);
+    assert_eq!(hub.submit(&TENTH, 0, 1, 2, b"").code, Code::GAP);
+    assert_eq!(hub.submit(&TENTH, 0, 1, 1, &[0xC1; PART + 1]).code, Code::LONG_PART);
+    assert_eq!(
+        hub.submit(&TENTH, 0, 1, 1, b"\x2B\xD3\x04\xC6\x2F\x41\xC1"),
+        answer(Code::OUTSIDE, 6, 0)
+    );
+    assert_eq!(hub.submit(&TENTH, 0, 1, 1, b""), answer(Code::DONE, 0, 0));
     assert_eq!(hub.close(0, 1).code, Code::DONE);
     assert_eq!(hub.close(0, 1).code, Code::ALREADY_TAKEN);
     assert_eq!(hub.close(1, 1).code, Code::NO_JOB);
@@ -94,11 +100,34 @@ fn requests_get_their_codes() {
 fn widths_given_are_the_ones_used() {
     let mut widths = [0; WIDTHS];
     widths[256 * 2 + 0xC1] = 10;
-    let mut hub = Hub::with_widths(&widths);
-    assert_eq!(hub.widths()[256 * 2 + 0xC1], 10);
+    let mut hub = Hub::new();
     assert_eq!(hub.open(0, 1, sheet()).code, Code::DONE);
-    assert_eq!(hub.submit(0, 1, 1, b"\xC1\x2B\xD3\x03\xF0\x02\xC1\xC1"), answer(Code::DONE, 3, 35));
+    let part = b"\xC1\x2B\xD3\x03\xF0\x02\xC1\xC1";
+    assert_eq!(hub.submit(&widths, 0, 1, 1, part), answer(Code::DONE, 3, 35));
     assert_eq!(hub.entry(0).unwrap().state.i(), 20);
+}
+
+/// Jobs of one hub, part by part in turn, are placed as each would be in a hub of its own.
+#[test]
+fn each_job_has_its_own_widths() {
+    let tables = [[72; WIDTHS], [144; WIDTHS], std::array::from_fn(|at| at as u16 % 200)];
+    let mut hub = Hub::new();
+    let mut alone = tables.map(|widths| (widths, Hub::new()));
+    for number in 0..3 {
+        for (slot, (widths, own)) in (0..).zip(&mut alone) {
+            for hub in [&mut hub, own] {
+                let answer = match number {
+                    0 => hub.open(slot, 1, sheet()),
+                    _ => hub.submit(widths, slot, 1, number, b"\xC1\xC2\x2B\xD3\x02\xD8\xC3"),
+                };
+                assert_eq!(answer.code, Code::DONE);
+            }
+        }
+    }
+    for (slot, (_, own)) in (0..).zip(&alone) {
+        assert_eq!((hub.entry(slot), hub.area(slot)), (own.entry(slot), own.area(slot)));
+    }
+    assert_eq!([0, 1, 2].map(|slot| hub.entry(slot).unwrap().state.i()), [72, 144, 195]);
 }
 
 #[test]
@@ -131,9 +160,9 @@ fn a_state_goes_in_and_comes_out() {
         used: 212,
     };
     let mut area = [0; AREA];
-    let refused = interpret(b"\x2B", &[144; WIDTHS], &mut area, sheet(), state);
+    let refused = interpret(b"\x2B", &TENTH, &mut area, sheet(), state);
     assert_eq!((refused.answer, refused.state), (answer(Code::CUT, 0, 0), state));
-    let done = interpret(b"\x2B\xD3\x02\xD9", &[144; WIDTHS], &mut area, sheet(), state);
+    let done = interpret(b"\x2B\xD3\x02\xD9", &TENTH, &mut area, sheet(), state);
     let after = State { at: Point { i: ORIGIN + 203, b: ORIGIN + 406 }, chain: 1, ..state };
     assert_eq!((done.answer, done.state), (answer(Code::DONE, 1, 0), after));
     assert_eq!(area, [0; AREA]);
