@@ -2,14 +2,16 @@
 
 use std::fmt;
 
+use crate::bytes;
 use crate::ffi::{self, Lent};
 use crate::shapes::{Descriptor, Entry, Table};
-use crate::{Answer, Records, AREA, RECORDS, SLOTS, WIDTHS};
+use crate::{Answer, Records, AREA, RECORDS, SLOTS, TABLE, WIDTHS};
 
 /// Sixteen slots for jobs, and their records.
 ///
 /// A request takes the hub by `&mut`, so two never run on one table at once; threads
-/// share a hub behind a lock.
+/// share a hub behind a lock. Promised is what requests alone have made of the memory:
+/// what the host writes to it the library takes as it finds it.
 #[derive(Clone)]
 pub struct Hub {
     table: Box<Table>,
@@ -20,6 +22,16 @@ impl Hub {
     /// A fresh table and zeroed records.
     pub fn new() -> Self {
         Self { table: Box::new(ffi::fresh()), records: Box::new([0; RECORDS]) }
+    }
+
+    /// A hub on memory that was kept: [`table_bytes`](Self::table_bytes) and
+    /// [`record_bytes`](Self::record_bytes) of one moment, or what a host in C kept.
+    ///
+    /// Any bytes are taken. An open entry with a number out of range is answered 12. A
+    /// wrong number that is in range, or a wrong record byte, is not seen: where files may
+    /// go bad, keep a checksum with them.
+    pub fn from_memory(table: &[u8; TABLE], records: &[u8; RECORDS]) -> Self {
+        Self { table: Box::new(bytes::to_table(table)), records: Box::new(*records) }
     }
 
     /// Opens a job in a slot under a key, which must be above every key that the slot has had.
@@ -63,6 +75,11 @@ impl Hub {
         Records::new(&area[..used.min(area.len())])
     }
 
+    /// The whole table, slot by slot.
+    pub fn table(&self) -> &[Entry; SLOTS] {
+        &self.table.entries
+    }
+
     /// A slot's entry, of an open job or of the last one; `None` above slot 15.
     pub fn entry(&self, slot: u32) -> Option<&Entry> {
         self.table.entries.get(slot as usize)
@@ -71,6 +88,19 @@ impl Hub {
     /// All of a slot's 4,096 record bytes, in use or not; `None` above slot 15.
     pub fn area(&self, slot: u32) -> Option<&[u8; AREA]> {
         self.records.chunks_exact(AREA).nth(slot as usize)?.try_into().ok()
+    }
+
+    /// The table as bytes, to keep together with [`record_bytes`](Self::record_bytes).
+    ///
+    /// Each number is little-endian, in the order of `include/halviruso.h`: on x86-64
+    /// the bytes that a host in C has in memory.
+    pub fn table_bytes(&self) -> [u8; TABLE] {
+        bytes::of_table(&self.table)
+    }
+
+    /// The whole record buffer; slot s owns the 4,096 bytes from 4,096 times s.
+    pub fn record_bytes(&self) -> &[u8; RECORDS] {
+        &self.records
     }
 }
 
@@ -154,7 +184,7 @@ mod tests {
             assert_eq!((hub.entry(slot), hub.area(slot)), (None, None));
             assert_eq!(hub.records(slot).count(), 0);
         }
-        assert_eq!(hub.area(15).map(|area| area.len()), Some(AREA));
+        assert_eq!(hub.area(15).map(|area| &area[..]), hub.record_bytes().get(15 * AREA..));
     }
 
     #[test]

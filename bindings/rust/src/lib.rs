@@ -62,13 +62,47 @@
 //!     assert_eq!(hub.open(slot, 1, sheet).code, Code::DONE);
 //!     assert_eq!(hub.submit(widths, slot, 1, 1, b"\xC1\xC2\xC3").code, Code::DONE);
 //! }
-//! assert_eq!((hub.entry(0).unwrap().state.i(), hub.entry(1).unwrap().state.i()), (216, 432));
+//! assert_eq!((hub.table()[0].state.i(), hub.table()[1].state.i()), (216, 432));
+//! ```
+//!
+//! # Over a restart
+//!
+//! All that the hub knows is the table and the record buffer. Keep both, of the same
+//! moment, before the reply goes out: what is accepted after that, a restart forgets.
+//! Within the program [`Hub::clone`] keeps them.
+//!
+//! ```
+//! use std::io::{Read, Write};
+//! # use halviruso::{Code, Descriptor, Hub, Point, RECORDS, TABLE, WIDTHS};
+//!
+//! # fn main() -> std::io::Result<()> {
+//! # let sheet = Descriptor { size: Point { i: 12_240, b: 15_840 }, ..Descriptor::default() };
+//! # let widths = [144; WIDTHS];
+//! # let mut hub = Hub::new();
+//! # assert_eq!(hub.open(3, 7, sheet).code, Code::DONE);
+//! # let mut file = Vec::new();
+//! assert_eq!(hub.submit(&widths, 3, 7, 1, b"\xC1").code, Code::DONE);
+//! file.write_all(&hub.table_bytes())?;
+//! file.write_all(hub.record_bytes())?;
+//! # drop(hub);
+//! # let mut file = &file[..];
+//!
+//! // The program ends here, and begins anew.
+//! let (mut table, mut records) = ([0; TABLE], [0; RECORDS]);
+//! file.read_exact(&mut table)?;
+//! file.read_exact(&mut records)?;
+//! let mut hub = Hub::from_memory(&table, &records);
+//! assert_eq!(hub.submit(&widths, 3, 7, 1, b"\xC1").code, Code::ALREADY_TAKEN);
+//! assert_eq!(hub.submit(&widths, 3, 7, 2, b"\xC2").code, Code::DONE);
+//! # Ok(())
+//! # }
 //! ```
 
 #![deny(missing_docs)]
 #![deny(unsafe_code)]
 
 mod answer;
+mod bytes;
 mod direct;
 #[allow(unsafe_code)]
 mod ffi;
@@ -84,6 +118,8 @@ pub use shapes::{Descriptor, Entry, Interpreted, Point, State};
 
 /// Entries of the table.
 pub const SLOTS: usize = 16;
+/// Bytes of the table: 16 entries of 27 numbers.
+pub const TABLE: usize = SLOTS * 108;
 /// Bytes of one job's record area.
 pub const AREA: usize = 4_096;
 /// Bytes of the record buffer; slot s owns the 4,096 from 4,096 times s.

@@ -125,12 +125,13 @@ pub(crate) struct Table {
 #[cfg(test)]
 mod tests {
     use super::*;
+    use crate::TABLE;
     use std::mem::{align_of, offset_of, size_of};
 
     #[test]
     fn layout_is_the_header_s() {
         assert_eq!((size_of::<Point>(), size_of::<Descriptor>(), size_of::<State>()), (8, 48, 48));
-        assert_eq!((size_of::<Entry>(), size_of::<Table>(), align_of::<Table>()), (108, 1_728, 4));
+        assert_eq!((size_of::<Entry>(), size_of::<Table>(), align_of::<Table>()), (108, TABLE, 4));
         assert_eq!((offset_of!(Descriptor, size), offset_of!(Descriptor, hidden)), (0, 44));
         assert_eq!((offset_of!(State, at), offset_of!(State, space)), (0, 32));
         assert_eq!((offset_of!(State, chain), offset_of!(State, used)), (40, 44));

@@ -127,7 +127,7 @@ fn each_job_has_its_own_widths() {
     for (slot, (_, own)) in (0..).zip(&alone) {
         assert_eq!((hub.entry(slot), hub.area(slot)), (own.entry(slot), own.area(slot)));
     }
-    assert_eq!([0, 1, 2].map(|slot| hub.entry(slot).unwrap().state.i()), [72, 144, 195]);
+    assert_eq!([0, 1, 2].map(|slot: usize| hub.table()[slot].state.i()), [72, 144, 195]);
 }
 
 #[test]
