@@ -85,9 +85,24 @@ impl Hub {
         self.table.entries.get(slot as usize)
     }
 
+    /// A slot's entry, to write to; `None` above slot 15.
+    ///
+    /// A damaged job, whose every request is answered 12, is given up by setting `mark`
+    /// to 0. Its key stays, so that keys only rise and the job's late requests do no harm;
+    /// if it is in doubt too, set it to the greatest key that the slot has had. The job's
+    /// records are not promised any more. The slot's next job is one like any other.
+    pub fn entry_mut(&mut self, slot: u32) -> Option<&mut Entry> {
+        self.table.entries.get_mut(slot as usize)
+    }
+
     /// All of a slot's 4,096 record bytes, in use or not; `None` above slot 15.
     pub fn area(&self, slot: u32) -> Option<&[u8; AREA]> {
         self.records.chunks_exact(AREA).nth(slot as usize)?.try_into().ok()
+    }
+
+    /// A slot's record bytes, to write to; `None` above slot 15. With the entry, one job is put back.
+    pub fn area_mut(&mut self, slot: u32) -> Option<&mut [u8; AREA]> {
+        self.records.chunks_exact_mut(AREA).nth(slot as usize)?.try_into().ok()
     }
 
     /// The table as bytes, to keep together with [`record_bytes`](Self::record_bytes).
@@ -179,11 +194,13 @@ mod tests {
 
     #[test]
     fn slots_above_15_have_nothing() {
-        let hub = opened();
+        let mut hub = opened();
         for slot in [16, u32::MAX] {
             assert_eq!((hub.entry(slot), hub.area(slot)), (None, None));
+            assert!(hub.entry_mut(slot).is_none() && hub.area_mut(slot).is_none());
             assert_eq!(hub.records(slot).count(), 0);
         }
+        assert!(hub.entry_mut(15).is_some() && hub.area_mut(15).is_some());
         assert_eq!(hub.area(15).map(|area| &area[..]), hub.record_bytes().get(15 * AREA..));
     }
 

@@ -97,6 +97,27 @@
 //! # Ok(())
 //! # }
 //! ```
+//!
+//! # A damaged job
+//!
+//! Where somebody else has written to the memory, an entry may hold numbers that no job
+//! has. Its requests are answered 12, and the other jobs go on. Put back what was kept,
+//! or give up the job by its mark ([`Hub::entry_mut`] says what that means).
+//!
+//! ```
+//! # use halviruso::{Code, Descriptor, Hub, Point, WIDTHS};
+//! # let sheet = Descriptor { size: Point { i: 12_240, b: 15_840 }, ..Descriptor::default() };
+//! # let widths = [144; WIDTHS];
+//! # let mut hub = Hub::new();
+//! # assert_eq!(hub.open(3, 7, sheet).code, Code::DONE);
+//! # hub.entry_mut(3).unwrap().state.font = 4;
+//! if hub.submit(&widths, 3, 7, 1, b"\xC1").code == Code::DAMAGED {
+//!     hub.entry_mut(3).unwrap().mark = 0;
+//! }
+//! // The key stays: the next one is above it.
+//! assert_eq!(hub.open(3, 7, sheet).code, Code::OLD_KEY);
+//! assert_eq!(hub.open(3, 8, sheet).code, Code::DONE);
+//! ```
 
 #![deny(missing_docs)]
 #![deny(unsafe_code)]
