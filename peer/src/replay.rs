@@ -1,7 +1,10 @@
 //! Runs replay scripts over lent memory, on any implementation of the hub.
 
+mod standard;
+mod stopped;
+
 use std::fmt;
-use std::io::{self, BufRead, Write};
+use std::io::{BufRead, Write};
 
 use crate::answer::Answer;
 use crate::check::check;
@@ -10,7 +13,10 @@ use crate::interpret::interpret;
 use crate::listing::Hex;
 use crate::model::{Descriptor, Entry, State, AREA, CODE_POINTS, RECORDS, SLOTS, WIDTHS};
 use crate::record::records;
-use crate::script::{Lend, Step};
+use crate::script::{Bad, Lend, Step};
+
+pub use standard::{complain, standard};
+pub use stopped::Stopped;
 
 /// An implementation of the hub, asked over memory that it is lent for each call.
 pub trait Backend {
@@ -174,32 +180,34 @@ impl<B: Backend> Replay<B> {
         self.lend
     }
 
-    /// Runs a script to its end or to its first bad line.
-    pub fn run(&mut self, mut script: impl BufRead, mut out: impl Write) -> io::Result<()> {
+    /// Runs a script to its end or to its first bad line, whose number `out` is told as well.
+    pub fn run(&mut self, mut script: impl BufRead, mut out: impl Write) -> Result<(), Stopped> {
         let mut line = Vec::new();
         let mut number: u64 = 0;
-        while script.read_until(b'\n', &mut line)? > 0 {
+        while script.read_until(b'\n', &mut line).map_err(Stopped::Read)? > 0 {
             number += 1;
             match self.line(&line) {
-                Some(said) => write!(out, "{said}")?,
-                None => {
-                    writeln!(out, "BAD LINE {number}")?;
-                    break;
+                Ok(said) => write!(out, "{said}").map_err(Stopped::Write)?,
+                Err(bad) => {
+                    let told = writeln!(out, "BAD LINE {number}").and_then(|()| out.flush());
+                    told.map_err(Stopped::Write)?;
+                    return Err(Stopped::Line { number, bad });
                 }
             }
             line.clear();
         }
-        out.flush()
+        out.flush().map_err(Stopped::Write)
     }
 
     /// Does one line, its newline with it. A line cut before its newline is bad.
-    fn line(&mut self, line: &[u8]) -> Option<Said> {
-        let text = line.strip_suffix(b"\n")?;
+    fn line(&mut self, line: &[u8]) -> Result<Said, Bad> {
+        let text = line.strip_suffix(b"\n").ok_or_else(Bad::unended)?;
         if text.is_empty() || text.starts_with(b"#") {
-            return Some(Said::Nothing);
+            return Ok(Said::Nothing);
         }
-        let step = Step::parse(std::str::from_utf8(text).ok()?)?;
-        Some(self.step(&step))
+        let text =
+            std::str::from_utf8(text).map_err(|error| Bad::not_text(text, error.valid_up_to()))?;
+        Ok(self.step(&Step::parse(text)?))
     }
 
     /// Does one step. A slot, font or length that no line can name is as good as no step.

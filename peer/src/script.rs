@@ -1,10 +1,16 @@
 //! The lines of a replay script, as values and as text.
 
+mod bad;
+mod lines;
+mod words;
+
 use std::fmt;
-use std::str::FromStr;
 
 use crate::listing::Hex;
-use crate::model::{kept, Descriptor, Entry, State, AREA, CODE_POINTS, FONTS, SLOTS};
+use crate::model::{kept, Descriptor, Entry};
+
+pub use bad::Bad;
+pub use lines::forms;
 
 /// Entries, record bytes and widths that the requests of a script are lent.
 #[derive(Clone, Copy, Debug, PartialEq, Eq)]
@@ -103,151 +109,10 @@ pub enum Step {
 }
 
 impl Step {
-    /// The step that a line says, without its newline; none for a bad line.
-    pub fn parse(line: &str) -> Option<Self> {
-        let mut words = Words(line.split(' '));
-        let step = match words.0.next()? {
-            "widths" => Self::Widths(words.number()?),
-            "width" => Self::Width {
-                font: words.below(FONTS)? as u8,
-                code_point: words.below(CODE_POINTS)? as u8,
-                width: words.number()?,
-            },
-            "fill" => Self::Fill(words.number()?),
-            "fresh" => Self::Fresh,
-            "lend" => Self::Lend(words.lend()?),
-            "open" => Self::Open {
-                slot: words.number()?,
-                key: words.number()?,
-                descriptor: words.descriptor()?,
-            },
-            "submit" => Self::Submit {
-                slot: words.number()?,
-                key: words.number()?,
-                number: words.number()?,
-                part: words.bytes()?,
-            },
-            "close" => Self::Close { slot: words.number()?, key: words.number()? },
-            "count" => Self::Count,
-            "direct" => Self::Direct { slot: words.slot()?, part: words.bytes()? },
-            "set" => Self::Set { slot: words.slot()?, entry: words.entry()? },
-            "show" => Self::Show { slot: words.slot()? },
-            "bytes" => words.area()?,
-            _ => return None,
-        };
-        words.0.next().is_none().then_some(step)
+    /// The step that a line says, without its newline, or what is wrong with the line.
+    pub fn parse(line: &str) -> Result<Self, Bad> {
+        lines::parse(line)
     }
-}
-
-/// The words of a line, one space between them.
-struct Words<'a>(std::str::Split<'a, char>);
-
-impl Words<'_> {
-    /// An unsigned number that the type holds.
-    fn number<N: FromStr>(&mut self) -> Option<N> {
-        let word = self.0.next()?;
-        // The library's reading of numbers would let a sign through.
-        word.bytes().all(|byte| byte.is_ascii_digit()).then(|| word.parse().ok())?
-    }
-
-    fn up_to(&mut self, greatest: usize) -> Option<usize> {
-        self.number().filter(|&number| number <= greatest)
-    }
-
-    fn below(&mut self, end: usize) -> Option<usize> {
-        self.number().filter(|&number| number < end)
-    }
-
-    fn slot(&mut self) -> Option<usize> {
-        self.below(SLOTS)
-    }
-
-    /// A position, which may have a minus.
-    fn position(&mut self) -> Option<u32> {
-        let word = self.0.next()?;
-        let digits = word.strip_prefix('-').unwrap_or(word);
-        let plain = digits.bytes().all(|byte| byte.is_ascii_digit());
-        let position: i16 = plain.then(|| word.parse().ok())??;
-        Some(kept(i32::from(position)))
-    }
-
-    /// A number of a state.
-    fn short(&mut self) -> Option<u32> {
-        self.number::<u16>().map(u32::from)
-    }
-
-    fn mark(&mut self) -> Option<u32> {
-        self.below(2).map(|mark| mark as u32)
-    }
-
-    fn lend(&mut self) -> Option<Lend> {
-        Some(Lend {
-            table: self.up_to(Lend::MOST.table)?,
-            records: self.up_to(Lend::MOST.records)?,
-            widths: self.up_to(Lend::MOST.widths)?,
-        })
-    }
-
-    fn area(&mut self) -> Option<Step> {
-        let (slot, from, to) = (self.slot()?, self.number()?, self.up_to(AREA)?);
-        (from <= to).then_some(Step::Bytes { slot, from, to })
-    }
-
-    fn descriptor(&mut self) -> Option<Descriptor> {
-        Some(Descriptor {
-            size_i: self.number()?,
-            size_b: self.number()?,
-            initial_i: self.number()?,
-            initial_b: self.number()?,
-            margin: self.number()?,
-            increment: self.number()?,
-            adjustment: self.number()?,
-            direction: self.number()?,
-            font: self.number()?,
-            colour: self.number()?,
-            rule: self.number()?,
-            hidden: self.number()?,
-        })
-    }
-
-    /// `next` stands before `used`, the state's last number.
-    fn entry(&mut self) -> Option<Entry> {
-        let (key, mark, descriptor) = (self.number()?, self.mark()?, self.descriptor()?);
-        let state = State {
-            i: self.position()?,
-            b: self.position()?,
-            margin: self.short()?,
-            increment: self.short()?,
-            adjustment: self.short()?,
-            direction: self.short()?,
-            font: self.short()?,
-            colour: self.short()?,
-            space: self.short()?,
-            suppression: self.short()?,
-            chain: self.mark()?,
-            used: 0,
-        };
-        let (next, used) = (self.number()?, self.short()?);
-        Some(Entry { key, mark, descriptor, state: State { used, ..state }, next })
-    }
-
-    /// Pairs of hex digits, or a minus for none.
-    fn bytes(&mut self) -> Option<Vec<u8>> {
-        match self.0.next()?.as_bytes() {
-            b"-" => Some(Vec::new()),
-            [] => None,
-            digits => {
-                let (pairs, []) = digits.as_chunks() else {
-                    return None;
-                };
-                pairs.iter().map(|&[high, low]| Some(nibble(high)? << 4 | nibble(low)?)).collect()
-            }
-        }
-    }
-}
-
-fn nibble(digit: u8) -> Option<u8> {
-    char::from(digit).to_digit(16).map(|nibble| nibble as u8)
 }
 
 impl fmt::Display for Step {
@@ -314,7 +179,7 @@ mod tests {
     use super::*;
 
     fn is_bad(line: &str) -> bool {
-        Step::parse(line).is_none()
+        Step::parse(line).is_err()
     }
 
     #[test]
@@ -348,7 +213,7 @@ mod tests {
             assert!(is_bad(bad), "{bad:?}");
         }
         let part = vec![0x2B, 0xD3, 0x02, 0xD8];
-        assert_eq!(Step::parse("direct 1 2bD302d8"), Some(Step::Direct { slot: 1, part }));
+        assert_eq!(Step::parse("direct 1 2bD302d8"), Ok(Step::Direct { slot: 1, part }));
     }
 
     #[test]

@@ -2,7 +2,7 @@
 
 use peer::generate::{case, sized_part, Ground, Reach, Requests, Rng};
 use peer::model::{AREA, RECORDS, SLOTS, WIDTHS};
-use peer::replay::{Peer, Replay, Said};
+use peer::replay::{Peer, Replay, Said, Stopped};
 use peer::script::Step;
 use peer::{interpret, sheet, State};
 
@@ -102,7 +102,7 @@ fn scripts_say_what_their_values_say() {
         let (mut script, mut told) = (String::new(), String::new());
         for (step, said) in Requests::new(seed, Reach::Script).take(500) {
             let line = step.to_string();
-            assert_eq!(Step::parse(&line).as_ref(), Some(&step), "{line}");
+            assert_eq!(Step::parse(&line).as_ref(), Ok(&step), "{line}");
             script += &format!("{line}\n");
             told += &said.to_string();
         }
@@ -113,7 +113,7 @@ fn scripts_say_what_their_values_say() {
 }
 
 #[test]
-fn no_script_makes_it_panic() {
+fn no_script_makes_it_panic_and_reasons_are_short_and_plain() {
     let mut rng = Rng::new(3);
     for seed in 300..310 {
         let steps = Requests::new(seed, Reach::Script).take(200);
@@ -127,7 +127,10 @@ fn no_script_makes_it_panic() {
                 script[at] = rng.pick(&[b' ', b'\n', b'-', b'0', b'9', b'#', 0xC3, any]);
             }
             let mut out = Vec::new();
-            Replay::new(Peer).run(&script[..], &mut out).expect("memory takes all");
+            let Err(stopped) = Replay::new(Peer).run(&script[..], &mut out) else { continue };
+            assert!(matches!(stopped, Stopped::Line { .. }), "memory takes all");
+            let why = stopped.to_string();
+            assert!(why.len() < 400 && why.bytes().all(|b| (b' '..=b'~').contains(&b)), "{why:?}");
         }
     }
 }

@@ -1,11 +1,13 @@
 //! Runs the replay script on standard input on this crate's hub.
+//!
+//! Status 0: it ran to its end. 1: a bad line, or input or output that failed; standard error says which.
 
 #![forbid(unsafe_code)]
 
-use std::io;
+use std::process::ExitCode;
 
-use peer::replay::{Peer, Replay};
+use peer::replay::{standard, Peer};
 
-fn main() -> io::Result<()> {
-    Replay::new(Peer).run(io::stdin().lock(), io::stdout().lock())
+fn main() -> ExitCode {
+    standard("replay_peer", Peer)
 }

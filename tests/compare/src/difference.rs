@@ -33,7 +33,7 @@ impl Difference {
         }
         for step in &self.steps {
             let line = step.to_string();
-            if Step::parse(&line).as_ref() != Some(step) {
+            if Step::parse(&line).as_ref() != Ok(step) {
                 let _ = writeln!(lines, "# no line can say this: {step:?}");
             } else {
                 lines += &(line + "\n");

@@ -77,23 +77,25 @@ fn rows() -> Vec<(Vec<u8>, String)> {
     rows
 }
 
-fn printed<B: Backend>(hub: B, script: &[u8]) -> Vec<u8> {
+/// What a script prints, and what stopped it, if anything did.
+pub fn printed<B: Backend>(hub: B, script: &[u8]) -> (Vec<u8>, String) {
     let mut out = Vec::new();
-    if let Err(error) = Replay::new(hub).run(script, &mut out) {
-        out.extend(error.to_string().as_bytes());
-    }
-    out
+    let ran = Replay::new(hub).run(script, &mut out);
+    (out, ran.err().map_or(String::new(), |stopped| stopped.to_string()))
 }
 
 /// Runs the rows; the number of them, or what differs.
 pub fn odd_lines<B: Backend + Clone>(hub: &B) -> Result<usize, String> {
     let rows = rows();
     for (at, (script, out)) in rows.iter().enumerate() {
-        let got = printed(hub.clone(), script);
-        if got != out.as_bytes() {
+        let (got, why) = printed(hub.clone(), script);
+        // A bad line and nothing else stops a script, and the reason has its number.
+        let bad = out.lines().find_map(|line| line.strip_prefix("BAD LINE "));
+        let is_said = bad.map_or(why.is_empty(), |n| why.starts_with(&format!("line {n}: ")));
+        if got != out.as_bytes() || !is_said {
             let shown = String::from_utf8_lossy(&script[..script.len().min(80)]).into_owned();
             let got = String::from_utf8_lossy(&got).into_owned();
-            return Err(format!("row {at}, {shown:?}: {got:?}, not {out:?}"));
+            return Err(format!("row {at}, {shown:?}: {got:?} ({why}), not {out:?}"));
         }
     }
     Ok(rows.len())

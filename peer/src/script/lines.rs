@@ -1,0 +1,109 @@
+//! The lines that a script can have: how each goes, and the step that it says.
+
+use super::bad::{shown, Bad};
+use super::words::Words;
+use super::Step;
+use crate::model::{AREA, FONTS};
+
+type Read = fn(&mut Words<'_>) -> Result<Step, Bad>;
+
+/// The form of each line, and what reads the words after the first. D stands for twelve numbers.
+const LINES: [(&str, Read); 13] = [
+    ("widths N", |words| Ok(Step::Widths(words.width()?))),
+    ("width F C N", width),
+    ("fill N", |words| Ok(Step::Fill(words.byte()?))),
+    ("fresh", |_| Ok(Step::Fresh)),
+    ("lend T R W", |words| Ok(Step::Lend(words.lend()?))),
+    ("open S K D", open),
+    ("submit S K N HEX", submit),
+    ("close S K", |words| Ok(Step::Close { slot: words.long()?, key: words.long()? })),
+    ("count", |_| Ok(Step::Count)),
+    ("direct S HEX", |words| Ok(Step::Direct { slot: words.slot()?, part: words.bytes()? })),
+    (
+        "set S KEY OPEN D I B MARGIN INCREMENT ADJUSTMENT DIRECTION FONT COLOUR SPACE SUPPRESSION \
+         CHAIN NEXT USED",
+        |words| Ok(Step::Set { slot: words.slot()?, entry: words.entry()? }),
+    ),
+    ("show S", |words| Ok(Step::Show { slot: words.slot()? })),
+    ("bytes S FROM TO", bytes),
+];
+
+/// How each line goes.
+pub fn forms() -> impl Iterator<Item = &'static str> {
+    LINES.iter().map(|(form, _)| *form)
+}
+
+fn first(line: &str) -> &str {
+    line.split_once(' ').map_or(line, |(first, _)| first)
+}
+
+pub(super) fn parse(line: &str) -> Result<Step, Bad> {
+    spaced(line)?;
+    let (form, read) = LINES
+        .iter()
+        .find(|(form, _)| first(form) == first(line))
+        .ok_or_else(|| unknown(first(line)))?;
+    read(&mut Words::of(line, form)?)
+}
+
+/// Between two words stands one space, and none at an end.
+fn spaced(line: &str) -> Result<(), Bad> {
+    let bad = |what: &str| Err(Bad(what.to_string()));
+    if line.ends_with('\r') {
+        return bad("a carriage return at its end; a newline alone ends a line");
+    }
+    if line.contains('\t') {
+        return bad("a tab; between two words stands one space");
+    }
+    if line.starts_with(' ') {
+        return bad("a space at its start");
+    }
+    if line.ends_with(' ') {
+        return bad("a space at its end");
+    }
+    line.find("  ").map_or(Ok(()), |at| {
+        Err(Bad(format!("two spaces after word {}", line[..at].split(' ').count())))
+    })
+}
+
+/// A first word that no line has; other case is the likeliest slip.
+fn unknown(word: &str) -> Bad {
+    let shown = shown(word.as_bytes());
+    let firsts: Vec<&str> = forms().map(first).collect();
+    match firsts.iter().find(|first| first.eq_ignore_ascii_case(word)) {
+        Some(first) => Bad(format!("\"{shown}\" is written {first}")),
+        None => Bad(format!(
+            "no line begins with \"{shown}\"; the first words are {}",
+            firsts.join(", ")
+        )),
+    }
+}
+
+fn width(words: &mut Words<'_>) -> Result<Step, Bad> {
+    Ok(Step::Width {
+        font: words.up_to(FONTS as u64 - 1)?,
+        code_point: words.byte()?,
+        width: words.width()?,
+    })
+}
+
+fn open(words: &mut Words<'_>) -> Result<Step, Bad> {
+    Ok(Step::Open { slot: words.long()?, key: words.long()?, descriptor: words.descriptor()? })
+}
+
+fn submit(words: &mut Words<'_>) -> Result<Step, Bad> {
+    Ok(Step::Submit {
+        slot: words.long()?,
+        key: words.long()?,
+        number: words.long()?,
+        part: words.bytes()?,
+    })
+}
+
+fn bytes(words: &mut Words<'_>) -> Result<Step, Bad> {
+    let (slot, from, to) = (words.slot()?, words.up_to(AREA as u64)?, words.up_to(AREA as u64)?);
+    if from > to {
+        return Err(Bad(format!("FROM {from} is above TO {to}")));
+    }
+    Ok(Step::Bytes { slot, from, to })
+}
