@@ -7,6 +7,9 @@
 
 mod codes;
 mod difference;
+#[path = "../../../peer/tests/common/document.rs"]
+mod document;
+mod documented;
 mod faults;
 mod options;
 mod parts;

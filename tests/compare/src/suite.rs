@@ -12,7 +12,7 @@ use crate::difference::{differ, shrink, Difference, SCRIPT};
 use crate::faults::{Broken, Fault, FAULTS};
 use crate::repeat::Repeated;
 use crate::swap::Swapped;
-use crate::{parts, repeat, requests, scripts, swap};
+use crate::{documented, parts, repeat, requests, scripts, swap};
 
 /// Seeds of the gate's requests; 400 steps each.
 const REQUEST_SEEDS: u64 = 640;
@@ -85,6 +85,7 @@ impl Suite {
     pub fn gate(&mut self) {
         let mut codes = Codes::default();
         self.rows();
+        self.documented();
         self.scripts(1..=SCRIPT_SEEDS);
         self.parts(0..=parts::ROUND, &mut codes);
         self.requests(1..=REQUEST_SEEDS, &mut codes);
@@ -98,6 +99,14 @@ impl Suite {
         let since = Instant::now();
         let told = scripts::odd_lines(&self.hub);
         self.tell(told.map(|rows| format!("{rows} odd scripts print what they should")), since);
+    }
+
+    fn documented(&mut self) {
+        let since = Instant::now();
+        let told = documented::compare(&self.hub, &self.root);
+        let told = told
+            .map(|scripts| format!("{scripts} scripts of docs/REPLAY.md print what stands there"));
+        self.tell(told, since);
     }
 
     fn scripts(&mut self, seeds: impl IntoIterator<Item = u64>) {

@@ -1,0 +1,114 @@
+//! What docs/REPLAY.md says of scripts, against the scripts that are read and run.
+
+#[path = "common/document.rs"]
+mod document;
+
+use std::fs;
+use std::path::Path;
+
+use document::{blocks, is_code, scripts};
+use peer::replay::{Peer, Replay};
+use peer::script::{forms, Step};
+
+fn text() -> String {
+    let path = Path::new(env!("CARGO_MANIFEST_DIR")).join("../docs/REPLAY.md");
+    fs::read_to_string(path).expect("docs/REPLAY.md")
+}
+
+/// The cells of the table that has this first line.
+fn table(first: &str) -> Vec<Vec<String>> {
+    let text = text();
+    let rows = text.lines().skip_while(|line| *line != first).skip(2);
+    let rows = rows.take_while(|line| line.starts_with('|'));
+    rows.map(|row| row.trim_matches(['|', ' ']).split(" | ").map(str::to_owned).collect()).collect()
+}
+
+/// What stands between backticks.
+fn quoted(cell: &str) -> Vec<&str> {
+    cell.split('`').skip(1).step_by(2).collect()
+}
+
+/// A line of this form in which the word `name` is `value`; for D, each of its twelve.
+fn line(form: &str, name: &str, value: &str) -> String {
+    let word = |of: &str| match of {
+        _ if of == name => value.to_string(),
+        "HEX" => "C1".to_string(),
+        "FROM" => "0".to_string(),
+        "TO" => "4096".to_string(),
+        _ => "1".to_string(),
+    };
+    let words = form.split(' ').enumerate().map(|(at, of)| match of {
+        _ if at == 0 => of.to_string(),
+        "D" => [(); 12].map(|()| word(of)).join(" "),
+        _ => word(of),
+    });
+    words.collect::<Vec<_>>().join(" ")
+}
+
+fn printed(script: &str) -> String {
+    let mut out = Vec::new();
+    Replay::new(Peer).run(script.as_bytes(), &mut out).expect(script);
+    String::from_utf8(out).expect("plain text")
+}
+
+const LINES: &str = "| Line | What it does | What it prints |";
+const RANGES: &str = "| Words | In | Least | Greatest |";
+
+#[test]
+fn the_table_has_the_lines_that_are_read() {
+    let told: Vec<String> = table(LINES).iter().map(|row| quoted(&row[0]).concat()).collect();
+    assert_eq!(told, forms().collect::<Vec<_>>());
+}
+
+#[test]
+fn each_line_of_the_table_prints_something_or_nothing_as_told() {
+    for row in table(LINES) {
+        let line = line(quoted(&row[0])[0], "", "");
+        let out = printed(&format!("{line}\n"));
+        assert_eq!(out.is_empty(), row[2] == "nothing", "{line} prints {out:?}");
+        assert!(Step::parse(&format!("{line} 1")).is_err(), "{line} 1");
+        let fewer = line.rsplit_once(' ').map_or("", |(fewer, _)| fewer);
+        assert!(Step::parse(fewer).is_err(), "{fewer}");
+    }
+}
+
+#[test]
+fn the_least_and_the_greatest_numbers_are_taken_and_no_others() {
+    let mut tried = 0;
+    for row in table(RANGES) {
+        let [least, greatest] = [&row[2], &row[3]].map(|end| end.parse::<i64>().expect("a number"));
+        for first in quoted(&row[1]) {
+            let form = forms().find(|form| form.split(' ').next() == Some(first)).expect(first);
+            for name in
+                quoted(&row[0]).into_iter().filter(|name| form.split(' ').any(|of| of == *name))
+            {
+                for (value, is_taken) in
+                    [(least, true), (greatest, true), (least - 1, false), (greatest + 1, false)]
+                {
+                    let line = line(form, name, &value.to_string());
+                    assert_eq!(Step::parse(&line).is_ok(), is_taken, "{line}");
+                }
+                tried += 1;
+            }
+        }
+    }
+    // Every word of every form but the first ones and HEX.
+    let words =
+        forms().flat_map(|form| form.split(' ').skip(1)).filter(|name| *name != "HEX").count();
+    assert_eq!(tried, words);
+}
+
+#[test]
+fn the_worked_scripts_print_what_stands_there() {
+    let text = text();
+    let scripts = scripts(&text);
+    for (script, out) in &scripts {
+        assert_eq!(printed(script), *out, "{script}");
+    }
+    // No script without what it prints; the other code is for a shell.
+    let code = blocks(&text).into_iter().filter(|block| is_code(block[0]));
+    let others = code
+        .filter(|block| !["    $ ", "    make"].iter().any(|shell| block[0].starts_with(shell)));
+    assert_eq!(others.count(), 2 * scripts.len());
+    assert!(scripts.len() >= 2);
+}
