@@ -59,7 +59,7 @@ replay:
 SECONDS = 60
 soak: replay
 	@cargo build --quiet --offline --release --target-dir build/cargo --manifest-path tests/compare/Cargo.toml
-	@build/cargo/release/compare --seconds $(SECONDS) $(if $(SEED),--seed $(SEED))
+	@build/cargo/release/compare --seconds '$(SECONDS)' $(if $(SEED),--seed '$(SEED)')
 
 # times beside the second implementation's and plain C's; where the archive can't run, of the library compiled for this processor
 HERE = $(if $(filter x86_64,$(shell uname -m)),,build/here/libhalviruso.a)

@@ -1,7 +1,8 @@
 //! The proved library against the peer: parts, requests, scripts; swap and repeat on the library's own memory.
 //!
 //! Without arguments it runs fixed seeds and is the gate's; `--seconds N` goes on from a new seed;
-//! `--break NAME` runs a hub with a fault. The first difference is left as a replay script.
+//! `--break NAME` runs a hub with a fault. The first difference is left as a replay script. The
+//! status is 1 if anything failed, 2 for arguments that it doesn't know.
 
 #![forbid(unsafe_code)]
 
@@ -13,6 +14,7 @@ mod documented;
 mod faults;
 mod options;
 mod parts;
+mod progress;
 mod repeat;
 mod requests;
 mod scripts;
@@ -22,15 +24,18 @@ mod swap;
 use std::env;
 use std::process::ExitCode;
 
-use options::{Run, USAGE};
+use options::Run;
 use replay::Proved;
 use suite::Suite;
 
 fn main() -> ExitCode {
     let words: Vec<String> = env::args_os().skip(1).map(|w| w.to_string_lossy().into()).collect();
-    let Some(run) = Run::read(&words) else {
-        eprintln!("{USAGE}");
-        return ExitCode::from(2);
+    let run = match Run::read(&words) {
+        Ok(run) => run,
+        Err(why) => {
+            eprintln!("{why}");
+            return ExitCode::from(2);
+        }
     };
     let mut suite = match Proved::start().and_then(Suite::new) {
         Ok(suite) => suite,

@@ -19,23 +19,34 @@ pub enum Run {
 }
 
 impl Run {
-    /// Reads the arguments after the program's name.
-    pub fn read(words: &[String]) -> Option<Self> {
+    /// Reads the arguments after the program's name, or says what is wrong with them.
+    pub fn read(words: &[String]) -> Result<Self, String> {
         let words: Vec<&str> = words.iter().map(String::as_str).collect();
         match words.as_slice() {
-            [] => Some(Self::Gate),
+            [] => Ok(Self::Gate),
             ["--seconds", seconds] => {
-                Some(Self::Soak { seconds: seconds.parse().ok()?, seed: new_seed() })
+                Ok(Self::Soak { seconds: number("seconds", seconds, 1)?, seed: new_seed() })
             }
-            ["--seconds", seconds, "--seed", seed] => {
-                Some(Self::Soak { seconds: seconds.parse().ok()?, seed: seed.parse().ok()? })
-            }
+            ["--seconds", seconds, "--seed", seed] => Ok(Self::Soak {
+                seconds: number("seconds", seconds, 1)?,
+                seed: number("seed", seed, 0)?,
+            }),
             ["--break", name] => {
-                FAULTS.iter().find(|(_, called, _)| called == name).map(|row| Self::Break(row.0))
+                let fault = FAULTS.iter().find(|(_, called, _)| called == name);
+                fault
+                    .map(|row| Self::Break(row.0))
+                    .ok_or_else(|| format!("compare: no fault {name:?}"))
             }
-            _ => None,
+            _ => Err(USAGE.to_string()),
         }
     }
+}
+
+/// A number of at least this. No time at all would compare nothing, and pass.
+fn number(name: &str, word: &str, least: u64) -> Result<u64, String> {
+    let number = word.parse().ok().filter(|number| *number >= least);
+    number
+        .ok_or_else(|| format!("compare: --{name} is {word:?}; it may be {least} to {}", u64::MAX))
 }
 
 /// A seed that no run before had.

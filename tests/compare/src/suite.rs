@@ -2,7 +2,7 @@
 
 use std::io;
 use std::path::{Path, PathBuf};
-use std::time::{Duration, Instant};
+use std::time::Instant;
 
 use peer::replay::Backend;
 use replay::Proved;
@@ -10,6 +10,7 @@ use replay::Proved;
 use crate::codes::Codes;
 use crate::difference::{differ, shrink, Difference, SCRIPT};
 use crate::faults::{Broken, Fault, FAULTS};
+use crate::progress::Progress;
 use crate::repeat::Repeated;
 use crate::swap::Swapped;
 use crate::{documented, parts, repeat, requests, scripts, swap};
@@ -221,25 +222,26 @@ impl Suite {
         self.tell(told, since);
     }
 
-    /// Goes on from a seed until the time is up.
+    /// Goes on from a seed until the time is up, and says now and then where it stands.
     pub fn soak(&mut self, seconds: u64, seed: u64) {
         println!("seed {seed}");
-        let since = Instant::now();
-        let end = since + Duration::from_secs(seconds);
+        let mut progress = Progress::new(seconds);
         let mut codes = Codes::default();
-        let mut round = seed;
-        while Instant::now() < end && self.failed == 0 {
-            let told = self.soaked(round, &mut codes);
-            if let Err(difference) = told {
-                let told = self.reported(difference);
-                self.tell(Err(told), since);
+        let mut rounds = 0;
+        while progress.goes_on() && self.failed == 0 {
+            match self.soaked(seed.wrapping_add(rounds), &mut codes) {
+                Ok(()) => progress.tell(rounds + 1, codes.total()),
+                Err(difference) => {
+                    let told = self.reported(difference);
+                    self.tell(Err(told), progress.since());
+                }
             }
-            round = round.wrapping_add(1);
+            rounds += 1;
         }
         print!("answers by code\n{codes}");
-        let (rounds, answers) = (round.wrapping_sub(seed), codes.total());
         if self.failed == 0 {
-            self.tell(Ok(format!("{rounds} rounds, {answers} answers: the same")), since);
+            let told = format!("{rounds} rounds, {} answers: the same", codes.total());
+            self.tell(Ok(told), progress.since());
         }
     }
 
