@@ -16,7 +16,7 @@ use std::rc::Rc;
 
 use peer::hub::Lent;
 use peer::model::SLOTS;
-use peer::replay::Backend;
+use peer::replay::{complain, Backend};
 use peer::{Answer, Descriptor, Entry, State};
 
 use crate::words::{
@@ -207,7 +207,7 @@ impl fmt::Debug for Proved {
 /// Nothing can be said for a library whose process is gone.
 fn here<T>(said: io::Result<T>) -> T {
     said.unwrap_or_else(|error| {
-        eprintln!("build/serve, the library's process, ended: {error}");
+        complain("build/serve, the library's process, ended", error);
         process::exit(3)
     })
 }
