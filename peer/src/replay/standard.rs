@@ -9,7 +9,7 @@ use std::process::ExitCode;
 
 use super::{Backend, Replay, Stopped};
 
-/// Runs the script on standard input. The status is 0, or 1 and standard error says what stopped it.
+/// Runs the script on standard input. Status 0, or 1 and standard error says what stopped it.
 pub fn standard(program: &str, backend: impl Backend) -> ExitCode {
     match run(backend) {
         Ok(()) => ExitCode::SUCCESS,
@@ -20,7 +20,7 @@ pub fn standard(program: &str, backend: impl Backend) -> ExitCode {
     }
 }
 
-/// Says what is wrong, in one line on standard error; the status tells it where that can't be written.
+/// Says what is wrong, in one line. Where standard error can't be written, the status says it.
 pub fn complain(program: &str, what: impl Display) {
     let _ = writeln!(io::stderr(), "{program}: {what}");
 }
@@ -35,7 +35,7 @@ fn run(backend: impl Backend) -> Result<(), Stopped> {
     Replay::new(backend).run(BufReader::new(script), LineWriter::new(out))
 }
 
-/// A standard stream as a file: the stream itself takes a failure for an end, if it isn't open for what is asked.
+/// A standard stream as a file; the stream itself hides that it isn't open for what is asked.
 fn file(stream: impl AsFd) -> io::Result<File> {
     Ok(stream.as_fd().try_clone_to_owned()?.into())
 }

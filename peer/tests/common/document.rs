@@ -10,7 +10,7 @@ pub fn is_code(line: &str) -> bool {
     line.starts_with("    ")
 }
 
-/// Each script with what it prints: two blocks of code that have `prints` and nothing else between them.
+/// Each script with what it prints: two blocks of code with `prints` and nothing else between.
 pub fn scripts(document: &str) -> Vec<(String, String)> {
     let code = |block: &[&str]| -> String {
         block
