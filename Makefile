@@ -86,7 +86,7 @@ help:
 	@echo 'make lib                build/libhalviruso.a, for hosts in C, C++ and Rust'
 	@echo 'make listing            target/bin/listing'
 	@echo 'make page PART=file     build/page.svg, the sheet of a part'
-	@echo 'make replay             build/replay, which runs scripts of requests: tests/compare/retry.replay is one'
+	@echo 'make replay             build/replay, which runs scripts of requests: docs/REPLAY.md'
 	@echo 'make soak SECONDS=n     compares library and second implementation for n seconds from a new seed'
 	@echo 'make bench              times beside the second implementation and plain C'
 	@echo 'make elements PART=file the elements of a part'

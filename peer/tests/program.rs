@@ -47,7 +47,7 @@ fn a_bad_line() {
 #[test]
 fn input_that_fails() {
     let why = "replay_peer: the script can't be read: ";
-    for input in ["<.", "<&-", "0>/dev/null"] {
+    for input in ["<.", "0>/dev/null"] {
         let output = shell(input);
         let (status, out, error) = said(&output);
         assert_eq!((status, out), (Some(1), ""), "{input}");

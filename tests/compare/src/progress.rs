@@ -5,7 +5,7 @@ use std::time::{Duration, Instant};
 /// Seconds from one line to the next.
 const EVERY: u64 = 10;
 
-/// The time that a run has, and when its next line is due.
+/// The time that a run has, and when its next line is due; the first is due at once.
 #[derive(Clone, Copy, Debug)]
 pub struct Progress {
     since: Instant,
@@ -15,7 +15,7 @@ pub struct Progress {
 
 impl Progress {
     pub fn new(seconds: u64) -> Self {
-        Self { since: Instant::now(), seconds, due: EVERY }
+        Self { since: Instant::now(), seconds, due: 0 }
     }
 
     pub fn since(&self) -> Instant {
@@ -31,7 +31,8 @@ impl Progress {
     pub fn tell(&mut self, rounds: u64, answers: u64) {
         let (now, seconds) = (self.since.elapsed().as_secs(), self.seconds);
         if now >= self.due && now < seconds {
-            println!("{now} of {seconds} s: {rounds} rounds, {answers} answers, all the same");
+            let s = if rounds == 1 { "" } else { "s" };
+            println!("{now} of {seconds} s: {rounds} round{s}, {answers} answers, all the same");
             self.due = (now / EVERY + 1) * EVERY;
         }
     }
