@@ -14,16 +14,13 @@ from elements.sequences import SEQUENCES
 from elements.served import Served
 from elements.shapes import AREA, Answer, Descriptor, Entry, Interpreted, NoLibrary, State
 from elements.walk import disagreements, element_at, walk
+from paths import LIBRARY, RUN, STANDIN
 from ptoca.sheet import DESCRIPTOR
 from ptoca.widths import every
 
-LIBRARY = os.path.join(paths.ROOT, 'build', 'elements-host')
-RUN = os.environ.get('RUN', '')  # the emulator, where there is one
-STANDIN = os.path.join(paths.HERE, 'standin', 'target', 'release', 'libstandin.so')
 
-
-def run_elements(part, *words, library=LIBRARY):
-    command = [sys.executable, '-B', os.path.join(paths.TOOLS, 'elements'), part, '--library', library, '--run', RUN, *words]
+def run_elements(part, *words, library=LIBRARY, run=RUN):
+    command = [sys.executable, '-B', os.path.join(paths.TOOLS, 'elements'), part, '--library', library, '--run', run, *words]
     return subprocess.run(command, capture_output=True, text=True, encoding='utf-8', check=False)
 
 
@@ -126,6 +123,11 @@ class Disagreeing(unittest.TestCase):
     def test_a_refusals_offset(self):
         self.assertTrue(self.told(BYTES['outside'], lambda answer, after, area: setattr(answer, 'first', 5)))
 
+    def test_the_tool_says_so_and_ends_with_1(self):
+        made = run_elements(paths.real('payroll-p01o01x01.part'), library=os.path.join(paths.HERE, 'liar.py'), run=f'{sys.executable} -B')
+        self.assertEqual((made.returncode, made.stderr), (1, ''))
+        self.assertRegex(made.stdout, 'THE LIBRARY DISAGREES WITH ITSELF: .*\n  elements: element by element [0-9]+, as a whole [0-9]+\n')
+
     def test_a_refusal_of_what_passes_in_pieces(self):
         self.assertTrue(self.told(BYTES['example'], lambda answer, after, area: setattr(answer, 'code', 24)))
 
@@ -146,7 +148,7 @@ class Pieces(unittest.TestCase):
     def test_a_missing_library_is_an_error(self):
         self.assertRaises(NoLibrary, Loaded, os.path.join(paths.HERE, 'none.so'))
         self.assertRaises(NoLibrary, Served, [os.path.join(paths.HERE, 'none')])
-        self.assertEqual(run_elements(paths.real('payroll-p01o01x01.part'), library='none.so').returncode, 1)
+        self.assertEqual(run_elements(paths.real('payroll-p01o01x01.part'), library='none.so').returncode, 2)
 
 
 def store():

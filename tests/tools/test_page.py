@@ -7,16 +7,22 @@ import xml.etree.ElementTree as ElementTree
 
 import paths
 from page.inks import DEFAULT, ink
-from page.listing import BadListing, Rule, Text, sheets
+from page.listing import Rule, Text, sheets
 from page.picture import picture
 from page.placing import bar, glyphs
 from ptoca.widths import every, read
+from ptoca.words import Wrong
 
 SVG = '{http://www.w3.org/2000/svg}'
 
 
+def of(text):
+    """The sheets of a text."""
+    return sheets(text.splitlines())
+
+
 def sheet(name, number=1):
-    return sheets(paths.listing(name))[number - 1]
+    return of(paths.listing(name))[number - 1]
 
 
 def drawn(name, code_page='500', part=None, number=1, widths=None):
@@ -52,13 +58,13 @@ class Reading(unittest.TestCase):
         self.assertEqual(sheet('outside').refused, (27, 6))
 
     def test_jobs_among_replays_other_lines(self):
-        first, second = sheets(paths.listing('job'))
+        first, second = of(paths.listing('job'))
         self.assertEqual((first.key, first.open, second.open), (17, 1, 0))
         self.assertEqual((first.end['margin'], first.end['next'], first.descriptor['hidden']), (720, 3, 5))
 
     def test_what_is_no_listing_is_refused(self):
         for wrong in ('PART 1\n', 'PART x\nEND 0 0 0 0\n', 'PART 1\nT 1 2\nEND 0 0 0 0\n', 'PART 1\nR 1 2 0 0 1\nEND 0 0 0 0\n', 'JOB 1 2\nEND\n', 'PART 1\nPART 1\n'):
-            self.assertRaises(BadListing, sheets, wrong)
+            self.assertRaises(Wrong, of, wrong)
 
 
 class Placing(unittest.TestCase):
@@ -121,13 +127,13 @@ class Picture(unittest.TestCase):
         self.assertEqual([char for _, _, char in spans(drawn('example', '1252'))], ['Á', 'Â'])
 
     def test_what_xml_reserves_is_escaped(self):
-        shown = sheets('PART 1\nT 0 0 0 65287 0 65535 4C506E7F\nEND 576 0 1 20\n')[0]
+        shown = of('PART 1\nT 0 0 0 65287 0 65535 4C506E7F\nEND 576 0 1 20\n')[0]
         tree = ElementTree.fromstring(picture(shown, every(), '500', '<a & b>').encode())
         self.assertEqual([char for _, _, char in spans(tree)], ['<', '&', '>', '"'])
         self.assertEqual(having(tree, 'text', 'name')[0].text, '<a & b>')
 
     def test_bytes_without_a_form_are_boxes(self):
-        shown = sheets('PART 1\nT 0 0 0 65287 0 65535 C100FF\nEND 432 0 1 19\n')[0]
+        shown = of('PART 1\nT 0 0 0 65287 0 65535 C100FF\nEND 432 0 1 19\n')[0]
         tree = ElementTree.fromstring(picture(shown, every(), '500').encode())
         self.assertEqual([node.find(SVG + 'text').text for node in having(tree, 'g', 'glyph')], ['00', 'FF'])
 
@@ -136,7 +142,7 @@ class Picture(unittest.TestCase):
 
     def test_every_byte_of_every_code_page_is_well_formed(self):
         every_byte = bytes(range(256)).hex().upper()
-        shown = sheets(f'PART 258\nT 0 0 0 65287 0 65535 {every_byte}\nEND 0 0 1 272\n')[0]
+        shown = of(f'PART 258\nT 0 0 0 65287 0 65535 {every_byte}\nEND 0 0 1 272\n')[0]
         for code_page in ('500', '1252'):
             tree = ElementTree.fromstring(picture(shown, every(), code_page).encode())
             self.assertEqual(len(spans(tree)) + len(having(tree, 'g', 'glyph')), 256)
@@ -165,7 +171,7 @@ class Refused(unittest.TestCase):
         self.assertEqual([node.text for node in having(tree, 'text', 'marked')], ['18'])
 
     def test_a_part_too_long_has_no_place(self):
-        shown = sheets('PART 8193\nREFUSED 19 0\n')[0]
+        shown = of('PART 8193\nREFUSED 19 0\n')[0]
         tree = ElementTree.fromstring(picture(shown, every(), '500', part=b'\0' * 8193).encode())
         self.assertEqual(len(having(tree, 'text', 'marked')), 0)
         self.assertEqual(having(tree, 'text', 'refusal')[0].text, 'Refused with 19: the part is above 8,192 bytes')
@@ -193,10 +199,6 @@ class Command(unittest.TestCase):
         made = self.run_page('--widths', paths.real('statement-p01.widths'), '--codepage', '1252', given=paths.listing('example'))
         table = read(paths.real('statement-p01.widths'))
         self.assertEqual(spans(ElementTree.fromstring(made.stdout.encode())), [(720, 480, 'Á'), (720 + table[0xC1], 480, 'Â')])
-
-    def test_no_sheet_is_an_error(self):
-        made = self.run_page(given='0 0 0\n')
-        self.assertEqual((made.returncode, made.stdout), (1, ''))
 
 
 if __name__ == '__main__':

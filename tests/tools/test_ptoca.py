@@ -5,6 +5,7 @@ import unittest
 
 import paths
 from ptoca import letters, refusals, widths
+from ptoca.words import Wrong
 
 
 class Letters(unittest.TestCase):
@@ -43,7 +44,7 @@ class Widths(unittest.TestCase):
             name = os.path.join(folder, 'short')
             with open(name, 'w', encoding='ascii') as file:
                 file.write('144 ' * 1023)
-            self.assertRaises(widths.BadWidths, widths.read, name)
+            self.assertRaises(Wrong, widths.read, name)
 
 
 class Refusals(unittest.TestCase):

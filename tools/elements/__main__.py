@@ -1,9 +1,10 @@
 """python3 tools/elements PART [--after PART]... [--widths FILE] [--codepage 500|1252] [--library FILE] [--run COMMAND]
 
 Prints a part as its elements, one a line: offset, TYPE, PTOCA's name, the values, and what the element placed or moved. What
-is accepted, placed or refused is what the library answers; the part as a whole must get the same answer, else the exit status is 2.
-The library is a shared one (.so), or a host program of it, as `make elements` builds; `--run` is the emulator for that, if it needs one."""
-import argparse
+is accepted, placed or refused is what the library answers, and the part as a whole must get the same answer.
+The library is a shared one (.so), or a host program of it, as `make elements` builds; `--run` is the emulator for that, if it needs one.
+Exit status 0: shown, a refused part too. 1: shown, and the library disagrees with itself. 2: it can't be done; one line on
+standard error says why, and nothing is printed."""
 import os
 import sys
 
@@ -11,20 +12,22 @@ import sys
 sys.path[0] = os.path.dirname(os.path.dirname(os.path.abspath(__file__)))
 
 from elements.loaded import Loaded
-from elements.report import dump, ending, plural, row
+from elements.report import dump, ending, refusal, row
 from elements.served import Served
 from elements.shapes import AREA, Descriptor, NoLibrary
 from elements.walk import disagreements, fault_place, walk
+from ptoca.command import Parser, run
+from ptoca.files import read, say
 from ptoca.letters import CODE_PAGES
-from ptoca.refusals import reason
 from ptoca.sheet import DESCRIPTOR
-from ptoca.widths import BadWidths, read
+from ptoca.widths import read as read_widths
+from ptoca.words import Wrong, one_line, plural
 
 HOST = os.path.join(os.path.dirname(sys.path[0]), 'build', 'elements-host')
 
 
 def arguments():
-    parser = argparse.ArgumentParser(prog='elements', description='Prints a part as its elements, by what the library answers.')
+    parser = Parser(prog='elements', description='Prints a part as its elements, by what the library answers.')
     parser.add_argument('part', help='a file with one part')
     parser.add_argument('--after', action='append', default=[], metavar='PART', help='a part of the same job before it; may be given again')
     parser.add_argument('--widths', help='1,024 numbers; every width 144 without it')
@@ -36,63 +39,49 @@ def arguments():
 
 def library_of(given):
     """A shared library is loaded, any other file is run."""
-    if given.library.endswith('.so'):
-        return Loaded(given.library)
-    return Served([*given.run.split(), given.library])
+    path = os.path.join(os.curdir, given.library)  # a bare name would be looked for in the system's places
+    return Loaded(path) if path.endswith('.so') else Served([*given.run.split(), path])
 
 
-def contents(path):
-    with open(path, 'rb') as file:
-        return file.read()
-
-
-def arrived(library, paths, widths, area, descriptor):
+def arrived(library, given, widths, area, descriptor):
     """The state that the parts before leave."""
     answer, state = library.opened(descriptor)
     if answer.code != 0:
-        raise NoLibrary(f'the library answers an open with {answer.code}')
-    for path in paths:
-        answer, state = library.interpret(contents(path), widths, area, descriptor, state)
+        raise NoLibrary(f'{given.library}: the library answers an open with {answer.code}')
+    for path in given.after:
+        answer, state = library.interpret(read(path), widths, area, descriptor, state)
         if answer.code != 0:
-            raise NoLibrary(f'{path} is refused with {answer.code} at {answer.first}')
+            raise Wrong(f'{path}: {refusal(answer)}')
     return state
 
 
-def show(library, given):
-    """Prints all of it; the exit status."""
-    widths, descriptor, area = read(given.widths), Descriptor(**DESCRIPTOR), bytearray(AREA)
-    part = contents(given.part)
-    start = arrived(library, given.after, widths, area, descriptor)
+def shown(library, given):
+    """The exit status, and all that is printed."""
+    part, widths, descriptor, area = read(given.part), read_widths(given.widths), Descriptor(**DESCRIPTOR), bytearray(AREA)
+    start = arrived(library, given, widths, area, descriptor)
     whole_area = bytearray(area)
     whole, end = library.interpret(part, widths, whole_area, descriptor, start)
-    print(f'{os.path.basename(given.part)}: {plural(len(part), "byte")}')
+    head = f'{one_line(os.path.basename(given.part))}: {plural(len(part), "byte")}'
     if 10 <= whole.code <= 19:
-        print(f'refused with {whole.code}: {reason(whole.code)}')
-        return 0
+        return 0, [head, refusal(whole)]
     steps = walk(library, part, widths, area, descriptor, start)
-    for step in steps:
-        print(row(step, given.codepage))
+    rows = [head, *(row(step, given.codepage) for step in steps)]
     differences = disagreements(steps, start, (area, whole_area), whole, end)
     if differences:
-        print('THE LIBRARY DISAGREES WITH ITSELF: the part as a whole is answered otherwise than element by element', *differences, sep='\n  ')
-        return 2
+        told = 'THE LIBRARY DISAGREES WITH ITSELF: the part as a whole is answered otherwise than element by element'
+        return 1, [*rows, told, *(f'  {difference}' for difference in differences)]
     if whole.code == 0:
-        print(ending(whole, end))
-        return 0
+        return 0, [*rows, ending(whole, end)]
     last = steps[-1]
     mark = last.element.at + fault_place(library, last, widths, area, descriptor)
-    print(f'refused with {whole.code} at {whole.first}: {reason(whole.code)}; nothing is placed', *dump(part, mark, given.codepage), sep='\n')
-    return 0
+    return 0, [*rows, f'{refusal(whole)}; nothing is placed', *dump(part, mark, given.codepage)]
 
 
 def main():
     given = arguments()
-    try:
-        sys.exit(show(library_of(given), given))
-    except BrokenPipeError:  # the reader has seen enough
-        os.dup2(os.open(os.devnull, os.O_WRONLY), sys.stdout.fileno())
-    except (NoLibrary, BadWidths, OSError) as error:
-        sys.exit(f'elements: {error}')
+    status, rows = shown(library_of(given), given)
+    say('\n'.join([*rows, '']))
+    return status
 
 
-main()
+run('elements', main)

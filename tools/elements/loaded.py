@@ -25,7 +25,7 @@ class Loaded:
 
     def interpret(self, part, widths, area, descriptor, state):
         """The answer and the state after it; records are added to the area, a bytearray."""
-        lent = (c_uint8 * max(len(part), 1))(*part)
+        lent = (c_uint8 * max(len(part), 1)).from_buffer_copy(part or b'\0')
         table = (c_uint16 * len(widths))(*widths)
         kept = (c_uint8 * len(area)).from_buffer(area)  # the area itself, not a copy
         got = self._interpret(lent, len(part), table, len(widths), kept, len(area), descriptor, state)

@@ -1,6 +1,7 @@
 """The elements in words, one a line; and the bytes around a refusal with a mark."""
 from ptoca.letters import letter, line
 from ptoca.refusals import reason
+from ptoca.words import plural
 
 from elements.shapes import ABSENT
 from elements.sequences import split
@@ -11,10 +12,6 @@ NAMES = {
     'i': 'I', 'b': 'B', 'margin': 'margin', 'increment': 'increment', 'adjustment': 'adjustment', 'direction': 'direction',
     'font': 'font', 'colour': 'colour', 'space': 'variable space', 'suppression': 'suppression',
 }
-
-
-def plural(count, one):
-    return f'{count:,} {one}' + ('' if count == 1 else 's')
 
 
 def quoted(text, code_page):
@@ -52,7 +49,7 @@ def changes(before, after):
 def apart(raw):
     """Records one by one, by their own lengths."""
     while raw:
-        size = int.from_bytes(raw[:2], 'little')
+        size = max(int.from_bytes(raw[:2], 'little'), 1)  # a wrong library may say 0
         yield raw[:size]
         raw = raw[size:]
 
@@ -72,6 +69,12 @@ def effect(step):
         return f'REFUSED with {step.answer.code}: {reason(step.answer.code)}'
     did = [record(raw) for raw in apart(step.records)] + changes(step.before, step.after)
     return '; '.join(did) if did else 'nothing changes'
+
+
+def refusal(answer):
+    """The code and its reason; codes from 20 on have a place."""
+    place = f' at {answer.first}' if answer.code >= 20 else ''
+    return f'refused with {answer.code}{place}: {reason(answer.code)}'
 
 
 def row(step, code_page):

@@ -1,12 +1,14 @@
 """The library's structures, as include/halviruso.h lays them out."""
 from ctypes import Structure, c_uint32
 
+from ptoca.words import Wrong
+
 SLOTS, AREA = 16, 4096
 ORIGIN = 32768  # a kept position is its number plus this one
 ABSENT = 65535  # the variable space of a state that has none
 
 
-class NoLibrary(Exception):
+class NoLibrary(Wrong):
     """The library can't be asked."""
 
 

@@ -1,22 +1,25 @@
 """python3 tools/page [LISTING] [--part FILE] [--widths FILE] [--codepage 500|1252] [--sheet N] [--output FILE]
 
 Draws a listing, or a job that replay showed, as SVG. Without LISTING it reads standard input. `--part` is the part itself:
-its name goes into the caption, and a refusal is marked on its bytes. `--sheet` chooses among several sheets in one text."""
-import argparse
+its name goes into the caption, and a refusal is marked on its bytes. `--sheet` chooses among several sheets in one text.
+Exit status 0: drawn. 2: it can't be done; one line on standard error says why, and an earlier file stays as it was."""
 import os
 import sys
 
 # tools/ in place of tools/page: the modules below are named from there
 sys.path[0] = os.path.dirname(os.path.dirname(os.path.abspath(__file__)))
 
-from page.listing import BadListing, sheets
+from page.listing import LONGEST, sheets
 from page.picture import picture
+from ptoca.command import Parser, run
+from ptoca.files import lines, read, write
 from ptoca.letters import CODE_PAGES
-from ptoca.widths import BadWidths, read
+from ptoca.widths import read as read_widths
+from ptoca.words import Wrong, named, plural
 
 
 def arguments():
-    parser = argparse.ArgumentParser(prog='page', description='Draws a listing, or a job shown by replay, as SVG.')
+    parser = Parser(prog='page', description='Draws a listing, or a job shown by replay, as SVG.')
     parser.add_argument('listing', nargs='?', help='a file with the listing; standard input without it')
     parser.add_argument('--part', help="the part's bytes, for its name and to mark a refusal on them")
     parser.add_argument('--widths', help='1,024 numbers; every width 144 without it')
@@ -26,35 +29,34 @@ def arguments():
     return parser.parse_args()
 
 
-def drawn(given):
-    """The picture that the arguments ask for."""
-    if given.listing:
-        with open(given.listing, encoding='ascii') as file:
-            text = file.read()
-    else:
-        text = sys.stdin.read()
-    found = sheets(text)
-    if not 1 <= given.sheet <= len(found):
-        raise BadListing(f'{len(found)} sheets in this text, and number {given.sheet} was asked for')
-    part = None
-    if given.part:
-        with open(given.part, 'rb') as file:
-            part = file.read()
-    name = os.path.basename(given.part) if given.part else None
-    return picture(found[given.sheet - 1], read(given.widths), given.codepage, name, part)
+def chosen(path, wanted):
+    """The sheet that is asked for, of a text."""
+    rows = lines(path)
+    try:
+        found = sheets(rows)
+    except Wrong as error:
+        raise Wrong(f'{named(path)}: {error}') from error
+    if not 1 <= wanted <= len(found):
+        raise Wrong(f'{named(path)}: {plural(len(found), "sheet")} in this text, and number {wanted:,} was asked for')
+    return found[wanted - 1]
+
+
+def part_of(shown, path):
+    """The part's bytes, which must be as many as the listing says."""
+    part = read(path)
+    if shown.part is not None and min(len(part), LONGEST + 1) != shown.part:
+        raise Wrong(f'{path}: {plural(len(part), "byte")}, and the listing is of a part of {shown.part:,}')
+    return part
 
 
 def main():
     given = arguments()
-    try:
-        svg = drawn(given)
-    except (BadListing, BadWidths, OSError, UnicodeDecodeError) as error:
-        sys.exit(f'page: {error}')
-    if given.output:
-        with open(given.output, 'w', encoding='utf-8') as file:
-            file.write(svg)
-    else:
-        sys.stdout.write(svg)
+    shown = chosen(given.listing, given.sheet)
+    part = None if given.part is None else part_of(shown, given.part)
+    name = None if given.part is None else os.path.basename(given.part)
+    svg = picture(shown, read_widths(given.widths), given.codepage, name, part)
+    write(svg.encode('utf-8'), given.output)
+    return 0
 
 
-main()
+run('page', main)

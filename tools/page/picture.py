@@ -1,5 +1,6 @@
 """The whole picture: strip, sheet, caption."""
 from ptoca.sheet import INCH
+from ptoca.words import plural
 
 from page import sheet, strip, svg
 from page.faces import face
@@ -10,10 +11,6 @@ PAD = 720       # around the sheet, with room for the rulers
 CAPTION = 1080  # below it
 GAP = 720       # between strip and sheet
 HEAD = 3600     # how much is drawn of a sheet that nothing was placed on
-
-
-def plural(count, one, many=None):
-    return f'{count:,} {one if count == 1 else many or one + "s"}'
 
 
 def facts(shown):

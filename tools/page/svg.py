@@ -1,10 +1,12 @@
 """The few forms of SVG that a sheet needs. Every text and attribute passes through `escaped`."""
+import re
 
 ESCAPES = {'&': '&amp;', '<': '&lt;', '>': '&gt;', '"': '&quot;'}
+NO_CHARACTER = re.compile('[^\t\n\r\x20-\ud7ff\ue000-\ufffd\U00010000-\U0010ffff]')  # none of XML: a file's name may have one
 
 
 def escaped(text):
-    return ''.join(ESCAPES.get(char, char) for char in str(text))
+    return ''.join(ESCAPES.get(char, char) for char in NO_CHARACTER.sub('\ufffd', str(text)))
 
 
 def number(value):

@@ -1,1 +1,1 @@
-"""What tools/page and tools/elements both know: the codes in words, the letters of a code page, a file of widths, the sheet."""
+"""What tools/page and tools/elements both know: how they are run and told what is wrong, codes in words, letters, widths, the sheet."""

@@ -1,11 +1,10 @@
 """The width table: 1,024 numbers, font f's code point c at 256 f + c."""
+from ptoca.files import lines
+from ptoca.words import Wrong, number, plural
 
 NUMBERS = 1024
 EACH = 144  # document 01's sheets: every character a tenth of an inch
-
-
-class BadWidths(Exception):
-    """A file that does not hold a width table."""
+GREATEST = 65535
 
 
 def every(width=EACH):
@@ -16,8 +15,12 @@ def read(path):
     """The table in a text file; without a file, every width 144."""
     if path is None:
         return every()
-    with open(path, encoding='ascii') as file:
-        words = file.read().split()
-    if len(words) != NUMBERS or not all(word.isdigit() and int(word) <= 65535 for word in words):
-        raise BadWidths(f'{path}: not {NUMBERS:,} numbers of 16 bits')
-    return [int(word) for word in words]
+    table = []
+    for at, row in enumerate(lines(path), 1):
+        try:
+            table += [number(word, 0, GREATEST) for word in row.split()]
+        except Wrong as error:
+            raise Wrong(f'{path}: line {at}: {error}') from error
+    if len(table) != NUMBERS:
+        raise Wrong(f'{path}: {plural(len(table), "number")} where {NUMBERS:,} belong')
+    return table
