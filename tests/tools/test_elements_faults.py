@@ -9,6 +9,7 @@ from elements import served
 from elements.shapes import NoLibrary
 from faults import Faults
 
+LONG = (8193, 65536, 65537, 1000000)  # bytes of parts that are too long
 # hosts that read the first request: one answers it and ends, one answers nonsense
 EARLY = '#!/bin/sh\nhead -c 49 > /dev/null\nhead -c 60 /dev/zero\necho "a word\nanother" >&2\nexit 3\n'
 WRONG = "#!/bin/sh\nhead -c 49 > /dev/null\nhead -c 60 /dev/zero | tr '\\0' '\\377'\n"
@@ -90,6 +91,24 @@ class Libraries(Elements):
         with mock.patch('elements.served.PATIENCE', 0.1):
             host = served.Served(['sleep', '100'])
             self.assertRaisesRegex(NoLibrary, '^100: no answer within 0.1 seconds$', host.opened, b'')
+
+
+class LongParts(Elements):
+    """The library itself is asked, however long the part is; and the count is the real one."""
+
+    def assert_too_long(self, *words):
+        for size in LONG:
+            self.file('long', bytes(size))
+            made = self.run_tool('long', *words)
+            self.assertEqual((made.returncode, made.stderr), (0, b''))
+            self.assertEqual(made.stdout.decode(), f'long: {size:,} bytes\nrefused with 19: the part is above 8,192 bytes\n')
+
+    def test_parts_that_are_too_long(self):
+        self.assert_too_long()
+
+
+class LongPartsOfTheLibrary(LongParts):
+    WORDS = ('--library', paths.LIBRARY, '--run', paths.RUN)
 
 
 if __name__ == '__main__':

@@ -11,15 +11,23 @@
 #include <stdlib.h>
 #include <string.h>
 
-#define LONGEST 65536u /* of a part that is passed on; the library refuses those above 8,192 bytes itself */
-
 static halviruso_table table;
 static uint16_t widths[HALVIRUSO_WIDTHS];
 static uint8_t area[HALVIRUSO_AREA];
-static uint8_t part[LONGEST];
 
 static void take(void *to, size_t size) {
     if (fread(to, 1, size, stdin) != size) exit(1);
+}
+
+/* A part of any length: which are too long, the library says. */
+static uint8_t *taken_part(uint32_t length) {
+    uint8_t *part = malloc(length > 0 ? length : 1);
+    if (part == NULL) {
+        fprintf(stderr, "no memory for a part of %lu bytes\n", (unsigned long)length);
+        exit(1);
+    }
+    take(part, length);
+    return part;
 }
 
 static void give(const void *from, size_t size) {
@@ -41,14 +49,15 @@ static void answer_interpret(void) {
     halviruso_state state;
     halviruso_interpreted out;
     uint32_t length;
+    uint8_t *part;
     take(&descriptor, sizeof descriptor);
     take(&state, sizeof state);
     take(widths, sizeof widths);
     take(area, sizeof area);
     take(&length, sizeof length);
-    if (length > LONGEST) exit(1);
-    take(part, length);
+    part = taken_part(length);
     out = halviruso_interpret(part, length, widths, HALVIRUSO_WIDTHS, area, HALVIRUSO_AREA, descriptor, state);
+    free(part);
     give(&out, sizeof out);
     give(area, sizeof area);
 }
