@@ -13,7 +13,7 @@ from elements.loaded import Loaded
 from elements.sequences import SEQUENCES
 from elements.served import Served
 from elements.shapes import AREA, Answer, Descriptor, Entry, Interpreted, NoLibrary, State
-from elements.walk import disagreements, element_at, walk
+from elements.walk import disagreements, walk
 from paths import LIBRARY, RUN, STANDIN
 from ptoca.sheet import DESCRIPTOR
 from ptoca.widths import every
@@ -133,11 +133,6 @@ class Disagreeing(unittest.TestCase):
 
 
 class Pieces(unittest.TestCase):
-    def test_where_elements_end(self):
-        part = bytes.fromhex('C1C22BD304C60001C3')
-        self.assertEqual([element_at(part, at, 0).raw.hex() for at in (0, 2, 8)], ['c1c2', '2bd304c60001', 'c3'])
-        self.assertEqual(element_at(bytes.fromhex('2B0003'), 0, 1).raw.hex(), '2b0003')
-
     def test_layouts_are_those_of_the_header(self):
         from ctypes import sizeof
         self.assertEqual([sizeof(kind) for kind in (Descriptor, State, Entry, Answer, Interpreted)], [48, 48, 108, 12, 60])

@@ -4,7 +4,7 @@ from ptoca.refusals import reason
 from ptoca.words import plural
 
 from elements.shapes import ABSENT
-from elements.sequences import split
+from elements.sequences import sequence_of, split
 
 SHOWN = 40   # characters of a text that are printed
 ROW = 16     # bytes to a line of the dump
@@ -22,7 +22,7 @@ def quoted(text, code_page):
 
 def values(element, code_page):
     """The parameters in words, as they stand in the part."""
-    sequence = element.sequence()
+    sequence = sequence_of(element)
     if element.intro is None:
         return quoted(element.raw, code_page)
     if sequence is None:
@@ -79,7 +79,7 @@ def refusal(answer):
 
 def row(step, code_page):
     element = step.element
-    sequence = element.sequence()
+    sequence = sequence_of(element)
     if element.intro is None:
         head = f'   {"text":<5}{"free run":<39}'
     elif sequence is None:

@@ -97,6 +97,12 @@ SEQUENCES = {
 UNKNOWN = Sequence('?', 'a type that the hub does not take')
 
 
+def sequence_of(element):
+    """The control sequence that an element is; None for a free run, and where no whole introducer stands."""
+    kind = element.type()
+    return None if kind is None else SEQUENCES.get(kind & 0xFE, UNKNOWN)
+
+
 def split(sequence, raw):
     """The parameters that are there, each with its place among the bytes and its own ones."""
     at, found = 0, []

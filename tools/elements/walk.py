@@ -1,30 +1,9 @@
 """A part, element by element: each one's bytes go to the library from the state that the one before it left."""
 from dataclasses import dataclass
 
-from elements.sequences import SEQUENCES, UNKNOWN, split
+from ptoca.cutting import Element, element_at
 
-ESCAPE, INTRODUCER = 0x2B, b'\x2B\xD3'
-
-
-@dataclass(frozen=True)
-class Element:
-    """An element's bytes as far as its own LENGTH says, or the part's end."""
-    at: int
-    raw: bytes
-    intro: int  # bytes before LENGTH: 2 with the prefix, 0 in a chain; None for a free run
-
-    def type(self):
-        """The byte at TYPE's place; None for a free run, and where no whole introducer stands."""
-        if self.intro is None or len(self.raw) < self.intro + 2 or self.raw[:self.intro] != INTRODUCER[:self.intro]:
-            return None
-        return self.raw[self.intro + 1]
-
-    def sequence(self):
-        kind = self.type()
-        return None if kind is None else SEQUENCES.get(kind & 0xFE, UNKNOWN)
-
-    def parameters(self):
-        return self.raw[self.intro + 2:]
+from elements.sequences import sequence_of, split
 
 
 @dataclass(frozen=True)
@@ -37,16 +16,6 @@ class Step:
     records: bytes
 
 
-def element_at(part, at, chain):
-    """Where an element ends is all that is told here; whether it is one, the library says."""
-    if not chain and part[at] != ESCAPE:
-        past = part.find(ESCAPE, at)
-        return Element(at, part[at:past] if past >= 0 else part[at:], None)
-    intro = 0 if chain else len(INTRODUCER)
-    length = part[at + intro] if at + intro < len(part) else 0
-    return Element(at, part[at:at + intro + max(length, 2)], intro)
-
-
 def walk(library, part, widths, area, descriptor, state):
     """The steps up to the first refusal, which is the last step."""
     steps, at = [], 0
@@ -56,7 +25,7 @@ def walk(library, part, widths, area, descriptor, state):
         steps.append(Step(element, state, after, answer, bytes(area[state.used:after.used])))
         if answer.code != 0:
             break
-        at, state = at + len(element.raw), after
+        at, state = element.end(), after
     return steps
 
 
@@ -94,7 +63,7 @@ def fault_place(library, step, widths, area, descriptor):
 def parameter_at_fault(library, step, widths, area, descriptor):
     """The first parameter that is refused still when harmless values stand behind it: the library is asked each time."""
     element = step.element
-    parameters = split(element.sequence(), element.parameters())
+    parameters = split(sequence_of(element), element.parameters())
     for k, (_, at, _) in enumerate(parameters):
         probe = b''.join(raw if n <= k else parameter.harmless for n, (parameter, _, raw) in enumerate(parameters))
         rest = element.parameters()[len(probe):]
