@@ -7,37 +7,11 @@ import xml.etree.ElementTree as ElementTree
 
 import paths
 from page.inks import DEFAULT, ink
-from page.listing import Rule, Text, sheets
-from page.picture import picture
+from page.listing import Rule, Text
 from page.placing import bar, glyphs
+from pictures import SVG, drawn, group, having, of, of_text, sheet, spans, tree_of
 from ptoca.widths import every, read
 from ptoca.words import Wrong
-
-SVG = '{http://www.w3.org/2000/svg}'
-
-
-def of(text):
-    """The sheets of a text."""
-    return sheets(text.splitlines())
-
-
-def sheet(name, number=1):
-    return of(paths.listing(name))[number - 1]
-
-
-def drawn(name, code_page='500', part=None, number=1, widths=None):
-    """A stored listing's picture, as a tree."""
-    svg = picture(sheet(name, number), widths or every(), code_page, 'name', part)
-    return ElementTree.fromstring(svg.encode('utf-8'))
-
-
-def having(tree, kind, name):
-    return [node for node in tree.iter(SVG + kind) if name in node.get('class', '').split()]
-
-
-def spans(tree):
-    """Every letter with its place."""
-    return [(int(span.get('x')), int(line.get('y')), span.text) for line in tree.iter(SVG + 'text') for span in line.findall(SVG + 'tspan')]
 
 
 def characters(shown):
@@ -95,7 +69,7 @@ class Placing(unittest.TestCase):
 class Picture(unittest.TestCase):
     def test_as_many_letters_and_bars_as_the_listing_has(self):
         for name in ('c-table', 'payroll', 'example'):
-            tree, shown = drawn(name), sheet(name)
+            tree, shown = group(drawn(name), 'items'), sheet(name)
             self.assertEqual(len(spans(tree)) + len(having(tree, 'g', 'glyph')), characters(shown))
             self.assertEqual(len(having(tree, 'rect', 'rule')) + len(having(tree, 'path', 'rule')), len(rules(shown)))
 
@@ -114,8 +88,8 @@ class Picture(unittest.TestCase):
     def test_a_job_with_adjustment_space_margin_and_a_bare_rule(self):
         tree = drawn('job')
         self.assertEqual(spans(tree), [(1440, 720, 'A'), (1564, 720, ' '), (1800, 720, 'B')])
-        self.assertEqual(len(having(tree, 'path', 'bare')), 1)
-        self.assertEqual([line.get('x1') for line in having(tree, 'line', 'margin')], ['720'])
+        self.assertEqual(len(having(group(tree, 'items'), 'path', 'bare')), 1)
+        self.assertEqual([line.get('x1') for line in having(group(tree, 'guides'), 'line', 'margin')], ['720'])
 
     def test_the_viewbox_is_in_units_and_the_size_in_inches(self):
         tree = drawn('example')
@@ -127,54 +101,27 @@ class Picture(unittest.TestCase):
         self.assertEqual([char for _, _, char in spans(drawn('example', '1252'))], ['Á', 'Â'])
 
     def test_what_xml_reserves_is_escaped(self):
-        shown = of('PART 1\nT 0 0 0 65287 0 65535 4C506E7F\nEND 576 0 1 20\n')[0]
-        tree = ElementTree.fromstring(picture(shown, every(), '500', '<a & b>').encode())
+        tree = tree_of(of('PART 1\nT 0 0 0 65287 0 65535 4C506E7F\nEND 576 0 1 20\n')[0], name='<a & b>')
         self.assertEqual([char for _, _, char in spans(tree)], ['<', '&', '>', '"'])
         self.assertEqual(having(tree, 'text', 'name')[0].text, '<a & b>')
 
     def test_bytes_without_a_form_are_boxes(self):
-        shown = of('PART 1\nT 0 0 0 65287 0 65535 C100FF\nEND 432 0 1 19\n')[0]
-        tree = ElementTree.fromstring(picture(shown, every(), '500').encode())
+        tree = of_text('PART 1\nT 0 0 0 65287 0 65535 C100FF\nEND 432 0 1 19\n')
         self.assertEqual([node.find(SVG + 'text').text for node in having(tree, 'g', 'glyph')], ['00', 'FF'])
 
     def test_the_caption(self):
         self.assertEqual(having(drawn('example'), 'text', 'facts')[0].text, '12 bytes, 3 elements, 18 record bytes, ends at I 1,008, B 480')
 
+    def test_a_text_of_no_characters(self):
+        tree = of_text('PART 1\nT 0 0 0 65287 0 65535 -\nEND 0 0 1 16\n')
+        self.assertEqual(spans(tree), [])
+
     def test_every_byte_of_every_code_page_is_well_formed(self):
         every_byte = bytes(range(256)).hex().upper()
         shown = of(f'PART 258\nT 0 0 0 65287 0 65535 {every_byte}\nEND 0 0 1 272\n')[0]
         for code_page in ('500', '1252'):
-            tree = ElementTree.fromstring(picture(shown, every(), code_page).encode())
+            tree = tree_of(shown, code_page)
             self.assertEqual(len(spans(tree)) + len(having(tree, 'g', 'glyph')), 256)
-
-
-class Refused(unittest.TestCase):
-    PART = bytes.fromhex('2BD304C62F41C1')
-
-    def test_the_elements_first_byte_is_marked(self):
-        tree = drawn('outside', part=self.PART)
-        self.assertEqual([node.text for node in having(tree, 'text', 'marked')], ['C1'])
-        self.assertEqual([node.text for node in having(tree, 'text', 'byte')], ['2B', 'D3', '04', 'C6', '2F', '41'])
-
-    def test_the_reason_is_said(self):
-        said = having(drawn('outside', part=self.PART), 'text', 'refusal')[0].text
-        self.assertEqual(said, 'Refused with 27 at byte 6: a character or a rule lies outside the sheet')
-
-    def test_without_the_part_the_reason_alone(self):
-        tree = drawn('outside')
-        self.assertEqual((len(having(tree, 'text', 'refusal')), len(having(tree, 'text', 'byte'))), (1, 0))
-
-    def test_a_long_part_shows_the_lines_around(self):
-        with open(paths.real('statement-p01o01x01.part'), 'rb') as file:
-            tree = drawn('statement', part=file.read())
-        self.assertEqual([node.text for node in having(tree, 'text', 'offset')], ['3712', '3728', '3744', '3760'])
-        self.assertEqual([node.text for node in having(tree, 'text', 'marked')], ['18'])
-
-    def test_a_part_too_long_has_no_place(self):
-        shown = of('PART 8193\nREFUSED 19 0\n')[0]
-        tree = ElementTree.fromstring(picture(shown, every(), '500', part=b'\0' * 8193).encode())
-        self.assertEqual(len(having(tree, 'text', 'marked')), 0)
-        self.assertEqual(having(tree, 'text', 'refusal')[0].text, 'Refused with 19: the part is above 8,192 bytes')
 
 
 class Inks(unittest.TestCase):

@@ -1,27 +1,32 @@
 """The strip of a refused part: the reason in words, and the part's bytes around the element at fault."""
+from ptoca.cutting import element_with
 from ptoca.letters import letter
 from ptoca.refusals import reason
 
 from page import svg
+from page.fitting import block
 
-ROW = 16       # bytes to a line
-BEFORE, AFTER = 1, 2  # lines around the element's first byte
-HEAD, LINE, FOOT = 560, 600, 60
-
-
-def window(part, offset):
-    """The lines to show, by their first offsets."""
-    middle = offset // ROW * ROW
-    starts = range(middle - BEFORE * ROW, middle + AFTER * ROW + 1, ROW)
-    return [start for start in starts if 0 <= start < len(part)]
+ROW = 16              # bytes to a line
+BEFORE, AFTER = 1, 2  # lines around the byte that the refusal names
+MOST = 4              # lines before and after it at most, to show the element whole
+LEFT, INSET, LINE = 1200, 300, 600
+PLACED = 20           # codes from here on name a byte
 
 
-def height(shown, part):
-    """How much room the strip takes above the sheet."""
-    if shown.refused is None:
-        return 0
-    lines = len(window(part, shown.refused[1])) if part is not None else 0
-    return HEAD + LINE * lines + FOOT
+def element_of(shown, part):
+    """The element at fault; None where no byte is named, or none that is there."""
+    code, offset = shown.refused
+    return element_with(part, offset) if part is not None and code >= PLACED else None
+
+
+def window(part, offset, element):
+    """The lines to show, by their first offsets: a few around the offset, more where the element needs them."""
+    middle = offset // ROW
+    first, last = middle - BEFORE, middle + AFTER
+    if element is not None:
+        first = max(min(first, element.at // ROW), middle - MOST)
+        last = min(max(last, (element.end() - 1) // ROW), middle + MOST)
+    return [ROW * row for row in range(max(first, 0), last + 1) if ROW * row < len(part)]
 
 
 def cell(x, y, byte, marked, code_page):
@@ -32,26 +37,43 @@ def cell(x, y, byte, marked, code_page):
             svg.words(x, y + 225, 'fault' if marked else 'hint', hint)]
 
 
-def row(part, start, y, left, step, offset, code_page):
-    parts = [svg.words(left - 240, y, 'offset', start)]
+def band(start, y, step, element):
+    """What a line has of the element, on one ground."""
+    first, past = max(element.at, start) - start, min(element.end(), start + ROW) - start
+    return [svg.rectangle(LEFT + step * first, y - 265, step * (past - first), 540, 'element', rx=50)] if first < past else []
+
+
+def row(part, start, y, step, shown, element, code_page):
+    """One line of bytes, `y` being its baseline."""
+    parts = band(start, y, step, element) if element is not None else []
+    parts.append(svg.words(LEFT - 240, y, 'offset', start))
     for k, byte in enumerate(part[start:start + ROW]):
-        parts += cell(left + step * k + step / 2, y, byte, start + k == offset, code_page)
+        marked = element is not None and start + k == shown.refused[1]
+        parts += cell(LEFT + step * k + step / 2, y, byte, marked, code_page)
     return parts
+
+
+def heading(shown, element):
+    """The refusal, and what is marked on the bytes."""
+    code, offset = shown.refused
+    where = f' at byte {offset}' if code >= PLACED else ''
+    said = [('refusal', f'Refused with {code}{where}: {reason(code)}')]
+    if element is not None:
+        place = f'byte {element.at}' if len(element.raw) == 1 else f'bytes {element.at} to {element.end() - 1}'
+        said.append(('fine', f'Shaded: the element, {place}. Red: the byte that the refusal names.'))
+    return said
 
 
 def strip(shown, part, top, width, code_page):
-    """All of it, from `top` down, as wide as the sheet."""
+    """All of it, from `top` down, as wide as the sheet; and where it ends."""
     if shown.refused is None:
-        return []
-    code, offset = shown.refused
-    where = f' at byte {offset}' if code >= 20 else ''
-    parts = [svg.rectangle(0, top, width, height(shown, part), 'strip'), svg.rectangle(0, top, 90, height(shown, part), 'spine'),
-             svg.words(300, top + 360, 'refusal', f'Refused with {code}{where}: {reason(code)}')]
-    if part is None:
-        return parts
-    left = 1200
-    step = (width - left - 240) / ROW
-    for n, start in enumerate(window(part, offset)):
-        marked = offset if code >= 20 else -1
-        parts += row(part, start, top + HEAD + 250 + LINE * n, left, step, marked, code_page)
-    return parts
+        return [], top
+    element, parts, y = element_of(shown, part), [], top + 120
+    for name, text in heading(shown, element):
+        lines, y = block(INSET, y, name, text, width - 2 * INSET)
+        parts += lines
+    for start in window(part, shown.refused[1], element) if part is not None else []:
+        parts += row(part, start, y + 330, (width - LEFT - 240) / ROW, shown, element, code_page)
+        y += LINE
+    y += 100
+    return [svg.rectangle(0, top, width, y - top, 'strip'), svg.rectangle(0, top, 90, y - top, 'spine'), *parts], y

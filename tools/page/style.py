@@ -15,7 +15,8 @@ RULES = """
 .code { font: 76px MONO; fill: #8a6414; text-anchor: middle }
 .name { font: bold 250px SANS; fill: #33302b }
 .facts { font: 200px SANS; fill: #5d574e }
-.fine { font: 160px SANS; fill: #8a8377; text-anchor: end }
+.fine { font: 160px SANS; fill: #7d766a }
+.right { text-anchor: end }
 .empty { font: 260px SANS; fill: #b9b2a6; text-anchor: middle }
 .strip { fill: #fdf4f3; stroke: #e3b5b1; stroke-width: 10 }
 .spine { fill: #b3261e }
@@ -23,6 +24,7 @@ RULES = """
 .offset { font: 170px MONO; fill: #8a8377; text-anchor: end }
 .byte { font: 220px MONO; fill: #33302b; text-anchor: middle }
 .hint { font: 160px MONO; fill: #9a9388; text-anchor: middle }
+.element { fill: #f7d3cf }
 .mark { fill: #b3261e }
 .marked { font: bold 220px MONO; fill: #ffffff; text-anchor: middle }
 .fault { font: bold 160px MONO; fill: #b3261e; text-anchor: middle }
