@@ -94,8 +94,8 @@ class Picture(unittest.TestCase):
     def test_the_viewbox_is_in_units_and_the_size_in_inches(self):
         tree = drawn('example')
         left, top, width, height = map(int, tree.get('viewBox').split())
-        self.assertEqual((left, top, width, height), (-720, -720, 13680, 17640))
-        self.assertEqual((tree.get('width'), tree.get('height')), ('9.5in', '12.25in'))
+        self.assertEqual((left, top, width, height), (-720, -720, 13680, 17874))
+        self.assertEqual((tree.get('width'), tree.get('height')), ('9.5in', '12.41in'))
 
     def test_the_code_page_changes_letters(self):
         self.assertEqual([char for _, _, char in spans(drawn('example', '1252'))], ['Á', 'Â'])
@@ -108,9 +108,6 @@ class Picture(unittest.TestCase):
     def test_bytes_without_a_form_are_boxes(self):
         tree = of_text('PART 1\nT 0 0 0 65287 0 65535 C100FF\nEND 432 0 1 19\n')
         self.assertEqual([node.find(SVG + 'text').text for node in having(tree, 'g', 'glyph')], ['00', 'FF'])
-
-    def test_the_caption(self):
-        self.assertEqual(having(drawn('example'), 'text', 'facts')[0].text, '12 bytes, 3 elements, 18 record bytes, ends at I 1,008, B 480')
 
     def test_a_text_of_no_characters(self):
         tree = of_text('PART 1\nT 0 0 0 65287 0 65535 -\nEND 0 0 1 16\n')

@@ -36,20 +36,23 @@ def rulers(width, height):
 
 
 def corner(i, b, right, down):
-    return svg.tag('path', {'d': f'M {i} {b + down * CORNER} L {i} {b} L {i + right * CORNER} {b}', 'class': 'corner'})
+    return svg.tag('path', {'d': f'M {i} {b + down} L {i} {b} L {i + right} {b}', 'class': 'corner'})
 
 
-def guides(shown, widths):
-    """The job's inline margin, and four corners around all that was placed."""
-    parts, height = [], shown.descriptor['size_b']
-    margin = (shown.end or {}).get('margin', 0)
-    if 0 < margin < shown.descriptor['size_i']:
-        parts.append(svg.line(margin, 0, margin, height, 'margin'))
+def margin(shown, width, height):
+    """The job's inline margin, where it lies on the sheet."""
+    at = (shown.end or {}).get('margin', 0)
+    return [svg.line(at, 0, at, height, 'margin')] if 0 < at < width else []
+
+
+def corners(shown, widths):
+    """Four of them around all that was placed."""
     box = reach(shown.items, widths)
-    if box:
-        left, top, right, bottom = box[0] - 120, box[1] - 280, box[2] + 120, box[3] + 160
-        parts += [corner(left, top, 1, 1), corner(right, top, -1, 1), corner(left, bottom, 1, -1), corner(right, bottom, -1, -1)]
-    return parts
+    if box is None:
+        return []
+    left, top, right, bottom = box[0] - 120, box[1] - 280, box[2] + 120, box[3] + 160
+    along, down = min(CORNER, (right - left) // 3), min(CORNER, (bottom - top) // 3)  # around little they are small
+    return [corner(left, top, along, down), corner(right, top, -along, down), corner(left, bottom, along, -down), corner(right, bottom, -along, -down)]
 
 
 def said(item):
@@ -97,12 +100,12 @@ def items(shown, widths, faces, code_page):
     return [rule(item) if isinstance(item, Rule) else text(item, widths, faces, code_page) for item in shown.items]
 
 
-def end(shown):
+def end(shown, width, height):
     """A small mark below the place where the next element would begin."""
     if shown.end is None:
         return []
     i, b = shown.end['i'], shown.end['b']
-    if not (0 <= i <= shown.descriptor['size_i'] and 0 <= b <= shown.descriptor['size_b']):
+    if not (0 <= i <= width and 0 <= b <= height):
         return []
     title = svg.tag('title', {}, f'ends at I {i}, B {b}')
     return [svg.tag('path', {'d': f'M {i} {b + 24} l 52 88 h -104 Z', 'class': 'end'}, title)]

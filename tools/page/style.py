@@ -15,8 +15,8 @@ RULES = """
 .code { font: 76px MONO; fill: #8a6414; text-anchor: middle }
 .name { font: bold 250px SANS; fill: #33302b }
 .facts { font: 200px SANS; fill: #5d574e }
+.warning { font: 200px SANS; fill: #b3261e }
 .fine { font: 160px SANS; fill: #7d766a }
-.right { text-anchor: end }
 .empty { font: 260px SANS; fill: #b9b2a6; text-anchor: middle }
 .strip { fill: #fdf4f3; stroke: #e3b5b1; stroke-width: 10 }
 .spine { fill: #b3261e }

@@ -1,0 +1,52 @@
+"""The caption below the sheet: what it is of, its numbers, and what is out of range."""
+from ptoca.sheet import INCH
+from ptoca.words import plural
+
+from page.fitting import block
+from page.listing import LONGEST
+from page.ranges import drawn_size, fits, warnings
+
+
+def size_of(shown, part):
+    """Bytes of the part. The listing of a long one doesn't say how many there are; the part itself does."""
+    if part is not None:
+        return plural(len(part), 'byte')
+    return plural(shown.part, 'byte') if shown.part <= LONGEST else f'more than {LONGEST:,} bytes'
+
+
+def taken(shown):
+    """Whether the job is open, and how many parts it took."""
+    number = shown.end['next']
+    parts = f'{plural(number - 1, "part")} taken' if fits('next', number) else f'next part {number:,}'
+    return f'{"open" if shown.open else "closed"}, {parts}'
+
+
+def facts(shown, part):
+    """Bytes, elements, record bytes and the final position, as far as they are known."""
+    if shown.refused is not None:
+        return f'{size_of(shown, part)}, nothing placed'
+    end = shown.end
+    place = f'ends at I {end["i"]:,}, B {end["b"]:,}'
+    if shown.part is not None:
+        return ', '.join([size_of(shown, part), plural(end['elements'], 'element'), plural(end['added'], 'record byte'), place])
+    return ', '.join([taken(shown), plural(end['used'], 'record byte'), place])
+
+
+def rows(shown, name, part, code_page):
+    """Each with its class."""
+    inches = ' by '.join(f'{extent / INCH:.3f}'.rstrip('0').rstrip('.') for extent in drawn_size(shown))
+    title = name or (f'Job {shown.key}' if shown.key is not None else 'One part')
+    yield 'name', title
+    yield 'facts', facts(shown, part)
+    for warning in warnings(shown):
+        yield 'warning', warning
+    yield 'fine', f'{inches} inches, ruler in inches; letters by code page {code_page}'
+
+
+def caption(said, y, width):
+    """Every row from `y` down; and where the caption ends."""
+    parts = []
+    for name, text in said:
+        lines, y = block(0, y, name, text, width)
+        parts += lines
+    return parts, y
