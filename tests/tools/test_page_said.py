@@ -1,4 +1,4 @@
-"""What tools/page says about a sheet: caption, what is out of range; and that it fits."""
+"""What tools/page says about a sheet: caption, why it is empty, what is out of range; and that it fits."""
 import unittest
 
 from page.fitting import fitted, measure
@@ -37,6 +37,39 @@ class Captions(unittest.TestCase):
         self.assertEqual(texts(of_text(refused, part=bytes(20000)), 'facts'), ['20,000 bytes, nothing placed'])
         self.assertEqual(texts(of_text(refused), 'facts'), ['more than 8,192 bytes, nothing placed'])
         self.assertEqual(texts(of_text('PART 8192\nREFUSED 27 0\n'), 'facts'), ['8,192 bytes, nothing placed'])
+
+
+class Empty(unittest.TestCase):
+    def assert_note(self, said, tree):
+        self.assertEqual(' '.join(texts(group(tree, 'note'), 'empty')), said)
+
+    def test_what_is_not_empty_says_nothing(self):
+        for tree in (drawn('example'), drawn('job'), part(1, 1, A_BARE_RULE)):
+            self.assert_note('', tree)
+
+    def test_parts(self):
+        self.assert_note('A refused part places nothing.', drawn('outside', part=PART))
+        self.assert_note('The part is empty: it has no element.', part(0, 0))
+        tail = ' Moves and settings leave none, nor does text that is suppressed or empty.'
+        self.assert_note('The one element leaves no record.' + tail, part(6, 1))
+        self.assert_note('None of the 1,200 elements leaves a record.' + tail, part(7000, 1200))
+
+    def test_jobs(self):
+        self.assert_note('The job has taken no part yet.', job())
+        self.assert_note('The job was closed before it took a part.', job(open=0))
+        self.assert_note('No part of the job has left a record.', job(next=3))
+        self.assert_note('No whole record stands at the start of the 7 record bytes.', job(next=3, used=7))
+        self.assert_note('No job has been opened here yet.', job(open=0, key=0))
+
+    def test_a_small_sheet_has_it_in_the_caption(self):
+        tree = job(size_i=300, size_b=300)
+        self.assert_note('', tree)
+        self.assertIn('The job has taken no part yet.', texts(group(tree, 'caption'), 'facts'))
+
+    def test_the_end_mark_is_not_written_over(self):
+        for b in range(0, 15840, 60):
+            place = float(having(group(job(b=b), 'note'), 'text', 'empty')[0].get('y'))
+            self.assertGreater(abs(place - b), 400)
 
 
 class OutOfRange(unittest.TestCase):

@@ -32,12 +32,14 @@ def facts(shown, part):
     return ', '.join([taken(shown), plural(end['used'], 'record byte'), place])
 
 
-def rows(shown, name, part, code_page):
-    """Each with its class."""
+def rows(shown, name, part, code_page, reason):
+    """Each with its class. The reason is why the sheet is empty, where there is no room on it."""
     inches = ' by '.join(f'{extent / INCH:.3f}'.rstrip('0').rstrip('.') for extent in drawn_size(shown))
     title = name or (f'Job {shown.key}' if shown.key is not None else 'One part')
     yield 'name', title
     yield 'facts', facts(shown, part)
+    if reason is not None:
+        yield 'facts', reason
     for warning in warnings(shown):
         yield 'warning', warning
     yield 'fine', f'{inches} inches, ruler in inches; letters by code page {code_page}'

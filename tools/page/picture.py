@@ -1,7 +1,9 @@
 """The whole picture: strip, sheet, caption."""
 from page import sheet, svg
 from page.caption import caption, rows
+from page.emptiness import why_empty
 from page.faces import face
+from page.fitting import SIZE, fitted, leading
 from page.listing import Text
 from page.ranges import drawn_size
 from page.strip import strip
@@ -12,12 +14,15 @@ SPACE = 360           # above the strip and below it
 BELOW = 230           # between sheet and caption, and below that
 HEAD = 3600           # how much is drawn of a sheet that a refused part would stand on
 NARROW = 7200         # the caption's width, where the sheet has less
+NOTED = (5000, 1500)  # a sheet no smaller than this has room for a sentence
 
 
-def empty(shown, width, height):
-    if shown.refused is None:
-        return []
-    return [svg.words(width // 2, height // 2, 'empty', 'A refused part places nothing.')]
+def note(text, width, height, end):
+    """Why the sheet is empty, in its middle; a third down where the end mark stands there."""
+    lines = fitted(text, 'empty', width * 3 / 4)
+    near = end is not None and abs(end['b'] - height // 2) < 3 * SIZE['empty']
+    top = height // (3 if near else 2) - leading('empty') * (len(lines) - 1) // 2
+    return [svg.words(width // 2, top + leading('empty') * k, 'empty', line) for k, line in enumerate(lines)]
 
 
 def above_sheet(shown, part, width, code_page):
@@ -38,7 +43,10 @@ def picture(shown, widths, code_page, name=None, part=None):
     fonts = {item.font for item in shown.items if isinstance(item, Text)}
     faces = {font: face(widths, font % 4, code_page) for font in fonts}
     above, top = above_sheet(shown, part, width, code_page)
-    below, bottom = caption(rows(shown, name, part, code_page), height + BELOW, max(width, NARROW))
+    reason = why_empty(shown)
+    noted = reason is not None and width >= NOTED[0] and height >= NOTED[1]
+    said = rows(shown, name, part, code_page, None if noted else reason)
+    below, bottom = caption(said, height + BELOW, max(width, NARROW))
     full = (-PAD, top, max(width, NARROW) + 2 * PAD, bottom + BELOW - top)
     return svg.document(*full, style(faces), [
         svg.rectangle(*full, 'desk'),
@@ -48,6 +56,6 @@ def picture(shown, widths, code_page, name=None, part=None):
         svg.group('guides', [*sheet.margin(shown, *size), *sheet.corners(shown, widths)]),
         svg.group('items', sheet.items(shown, widths, faces, code_page)),
         svg.group('ending', sheet.end(shown, *size)),
-        svg.group('note', empty(shown, width, height)),
+        svg.group('note', note(reason, width, height, shown.end) if noted else []),
         svg.group('caption', below),
     ])

@@ -17,7 +17,7 @@ RULES = """
 .facts { font: 200px SANS; fill: #5d574e }
 .warning { font: 200px SANS; fill: #b3261e }
 .fine { font: 160px SANS; fill: #7d766a }
-.empty { font: 260px SANS; fill: #b9b2a6; text-anchor: middle }
+.empty { font: 260px SANS; fill: #9d968a; text-anchor: middle; paint-order: stroke; stroke: #ffffff; stroke-width: 90 }
 .strip { fill: #fdf4f3; stroke: #e3b5b1; stroke-width: 10 }
 .spine { fill: #b3261e }
 .refusal { font: bold 250px SANS; fill: #b3261e }
