@@ -94,8 +94,8 @@ class Picture(unittest.TestCase):
     def test_the_viewbox_is_in_units_and_the_size_in_inches(self):
         tree = drawn('example')
         left, top, width, height = map(int, tree.get('viewBox').split())
-        self.assertEqual((left, top, width, height), (-720, -720, 13680, 17874))
-        self.assertEqual((tree.get('width'), tree.get('height')), ('9.5in', '12.41in'))
+        self.assertEqual((left, top, width, height), (-720, -720, 13680, 18098))
+        self.assertEqual((tree.get('width'), tree.get('height')), ('9.5in', '12.57in'))
 
     def test_the_code_page_changes_letters(self):
         self.assertEqual([char for _, _, char in spans(drawn('example', '1252'))], ['Á', 'Â'])

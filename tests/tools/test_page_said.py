@@ -1,4 +1,4 @@
-"""What tools/page says about a sheet: caption, why it is empty, what is out of range; and that it fits."""
+"""What tools/page says about a sheet: caption, legend, why it is empty, what is out of range; and that it fits."""
 import unittest
 
 from page.fitting import fitted, measure
@@ -70,6 +70,31 @@ class Empty(unittest.TestCase):
         for b in range(0, 15840, 60):
             place = float(having(group(job(b=b), 'note'), 'text', 'empty')[0].get('y'))
             self.assertGreater(abs(place - b), 400)
+
+
+class Legend(unittest.TestCase):
+    END, CORNERS = 'where it ends and the next element would begin', 'around all that was placed'
+
+    def legend(self, tree):
+        """All in fine print but the first row of it, which has the inches."""
+        return texts(group(tree, 'caption'), 'fine')[1:]
+
+    def signs(self, tree):
+        kinds = ('path', 'line', 'rect')
+        return [node.get('class') for node in group(tree, 'caption') if node.tag in [SVG + kind for kind in kinds]]
+
+    def test_only_what_the_picture_has(self):
+        self.assertEqual(self.legend(drawn('example')), [self.END, self.CORNERS])
+        self.assertEqual(self.legend(drawn('outside')), [])
+        self.assertEqual(self.legend(part(0, 0)), [self.END])
+        self.assertEqual(self.legend(job(i=-1)), [])
+        self.assertEqual(self.legend(job(i=-1, state_margin=720)), ['the inline margin'])
+        self.assertEqual(self.legend(part(1, 1, A_BOX)), [self.END, self.CORNERS, 'a byte that is no letter in code page 500'])
+        self.assertEqual(self.legend(part(1, 1, A_BARE_RULE)), [self.END, self.CORNERS, 'a rule with no length or no width'])
+
+    def test_each_has_a_sign_of_its_kind(self):
+        self.assertEqual(self.signs(job(A_BOX + A_BARE_RULE, state_margin=720)), ['end', 'corner', 'margin', 'box', 'bare'])
+        self.assertEqual(self.signs(drawn('outside')), [])
 
 
 class OutOfRange(unittest.TestCase):

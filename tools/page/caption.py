@@ -1,8 +1,9 @@
-"""The caption below the sheet: what it is of, its numbers, and what is out of range."""
+"""The caption below the sheet: what it is of, its numbers, what is out of range, and the legend."""
 from ptoca.sheet import INCH
 from ptoca.words import plural
 
 from page.fitting import block
+from page.legend import legend
 from page.listing import LONGEST
 from page.ranges import drawn_size, fits, warnings
 
@@ -33,7 +34,7 @@ def facts(shown, part):
 
 
 def rows(shown, name, part, code_page, reason):
-    """Each with its class. The reason is why the sheet is empty, where there is no room on it."""
+    """All but the legend, with the class of each. The reason is why the sheet is empty, where there is no room on it."""
     inches = ' by '.join(f'{extent / INCH:.3f}'.rstrip('0').rstrip('.') for extent in drawn_size(shown))
     title = name or (f'Job {shown.key}' if shown.key is not None else 'One part')
     yield 'name', title
@@ -45,10 +46,11 @@ def rows(shown, name, part, code_page, reason):
     yield 'fine', f'{inches} inches, ruler in inches; letters by code page {code_page}'
 
 
-def caption(said, y, width):
-    """Every row from `y` down; and where the caption ends."""
+def caption(said, marks, code_page, y, width):
+    """Every row, and the legend of these marks, from `y` down; and where the caption ends."""
     parts = []
     for name, text in said:
         lines, y = block(0, y, name, text, width)
         parts += lines
-    return parts, y
+    lines, y = legend(marks, code_page, y, width)
+    return parts + lines, y

@@ -43,19 +43,20 @@ def picture(shown, widths, code_page, name=None, part=None):
     fonts = {item.font for item in shown.items if isinstance(item, Text)}
     faces = {font: face(widths, font % 4, code_page) for font in fonts}
     above, top = above_sheet(shown, part, width, code_page)
+    marks = sheet.marks(shown, size, widths, code_page)
     reason = why_empty(shown)
     noted = reason is not None and width >= NOTED[0] and height >= NOTED[1]
     said = rows(shown, name, part, code_page, None if noted else reason)
-    below, bottom = caption(said, height + BELOW, max(width, NARROW))
+    below, bottom = caption(said, marks, code_page, height + BELOW, max(width, NARROW))
     full = (-PAD, top, max(width, NARROW) + 2 * PAD, bottom + BELOW - top)
     return svg.document(*full, style(faces), [
         svg.rectangle(*full, 'desk'),
         svg.group('refused', above),
         *(sheet.torn_edge if shown.refused else sheet.edge)(width, height),
         svg.group('rulers', sheet.rulers(width, height)),
-        svg.group('guides', [*sheet.margin(shown, *size), *sheet.corners(shown, widths)]),
+        svg.group('guides', [*marks.get('margin', []), *marks.get('corner', [])]),
         svg.group('items', sheet.items(shown, widths, faces, code_page)),
-        svg.group('ending', sheet.end(shown, *size)),
+        svg.group('ending', marks.get('end', [])),
         svg.group('note', note(reason, width, height, shown.end) if noted else []),
         svg.group('caption', below),
     ])

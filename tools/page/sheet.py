@@ -109,3 +109,14 @@ def end(shown, width, height):
         return []
     title = svg.tag('title', {}, f'ends at I {i}, B {b}')
     return [svg.tag('path', {'d': f'M {i} {b + 24} l 52 88 h -104 Z', 'class': 'end'}, title)]
+
+
+def marks(shown, size, widths, code_page):
+    """Those of the picture's own marks that the sheet has, by name; boxes and bare rules are drawn with the items."""
+    drawn = {'margin': margin(shown, *size), 'corner': corners(shown, widths), 'end': end(shown, *size)}
+    for item in shown.items:
+        if isinstance(item, Rule):
+            drawn['bare'] = drawn.get('bare') or 0 in bar(item)
+        else:
+            drawn['box'] = drawn.get('box') or any(letter(byte, code_page) is None for byte in item.characters)
+    return {name: parts for name, parts in drawn.items() if parts}
