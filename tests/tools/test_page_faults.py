@@ -62,9 +62,11 @@ class Outputs(Page):
 
 class Written(Page):
     def assert_written(self, name):
-        """The picture stands there, as standard output would get it."""
+        """The picture stands there, as standard output would get it, and nothing else does."""
+        before = set(os.listdir(self.folder))
         made = self.run_tool('ok', '--output', name)
         self.assertEqual((made.returncode, made.stdout, made.stderr), (0, b'', b''))
+        self.assertEqual(set(os.listdir(self.folder)), before | {name})
         with open(self.path(name), 'rb') as file:
             self.assertEqual(file.read(), self.run_tool('ok').stdout)
 

@@ -67,9 +67,11 @@ class Empty(unittest.TestCase):
         self.assertIn('The job has taken no part yet.', texts(group(tree, 'caption'), 'facts'))
 
     def test_the_end_mark_is_not_written_over(self):
-        for b in range(0, 15840, 60):
-            place = float(having(group(job(b=b), 'note'), 'text', 'empty')[0].get('y'))
-            self.assertGreater(abs(place - b), 400)
+        for height in (2500, 15840):
+            for b in range(0, height, 60):
+                place = float(having(group(job(size_b=height, b=b), 'note'), 'text', 'empty')[0].get('y'))
+                self.assertGreater(abs(place - b), 400)
+                self.assertTrue(400 < place < height - 400)
 
 
 class Legend(unittest.TestCase):

@@ -14,14 +14,15 @@ SPACE = 360           # above the strip and below it
 BELOW = 230           # between sheet and caption, and below that
 HEAD = 3600           # how much is drawn of a sheet that a refused part would stand on
 NARROW = 7200         # the caption's width, where the sheet has less
-NOTED = (5000, 1500)  # a sheet no smaller than this has room for a sentence
+NOTED = (5000, 2500)  # a sheet no smaller than this has room for a sentence
 
 
 def note(text, width, height, end):
-    """Why the sheet is empty, in its middle; a third down where the end mark stands there."""
-    lines = fitted(text, 'empty', width * 3 / 4)
-    near = end is not None and abs(end['b'] - height // 2) < 3 * SIZE['empty']
-    top = height // (3 if near else 2) - leading('empty') * (len(lines) - 1) // 2
+    """Why the sheet is empty, in its middle; where the end mark stands there, halfway to the edge that is further off."""
+    lines, middle = fitted(text, 'empty', width * 3 / 4), height // 2
+    if end is not None and abs(end['b'] - middle) < 3 * SIZE['empty']:
+        middle += height // 4 if end['b'] < middle else -height // 4
+    top = middle - leading('empty') * (len(lines) - 1) // 2
     return [svg.words(width // 2, top + leading('empty') * k, 'empty', line) for k, line in enumerate(lines)]
 
 
