@@ -22,6 +22,19 @@ class Page(Faults):
         self.file('ok.part', PART)
 
 
+    def assert_straight(self):
+        """A pipe of this folder's own gets the picture and stays a pipe: without that no device is tried, which root could replace."""
+        os.mkfifo(self.path('pipe'))
+        reading = os.open(self.path('pipe'), os.O_RDONLY | os.O_NONBLOCK)
+        try:
+            made = self.run_tool('ok', '--output', 'pipe')
+            self.assertEqual((made.returncode, made.stdout, made.stderr), (0, b'', b''))
+            self.assertTrue(stat.S_ISFIFO(os.stat(self.path('pipe')).st_mode))
+            self.assertEqual(os.read(reading, 65536), self.run_tool('ok').stdout)
+        finally:
+            os.close(reading)
+
+
 class Outputs(Page):
     def test_a_missing_folder(self):
         self.assert_fault('none/a.svg: No such file or directory', 'ok', '--output', 'none/a.svg')
@@ -30,6 +43,7 @@ class Outputs(Page):
         self.assert_fault('folder: Is a directory', 'ok', '--output', 'folder')
 
     def test_a_full_device(self):
+        self.assert_straight()
         self.assert_fault('/dev/full: No space left on device', 'ok', '--output', '/dev/full')
 
     def test_standard_output_full_or_closed(self):
@@ -91,6 +105,7 @@ class Written(Page):
         self.assertTrue(os.path.islink(self.path('a.svg')))
 
     def test_a_device_is_written_straight(self):
+        self.assert_straight()
         made = self.run_tool('ok', '--output', '/dev/stdout')
         self.assertEqual((made.returncode, made.stdout), (0, self.run_tool('ok').stdout))
         self.assertGreater(len(made.stdout), SMALL)
