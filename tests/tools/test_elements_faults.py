@@ -74,7 +74,7 @@ class Libraries(Elements):
         self.assert_fault('./folder: Permission denied', 'ok', '--library', 'folder')
 
     def test_a_command_that_is_not_there(self):
-        self.assert_fault('none: No such file or directory', 'ok', '--run', 'none', '--library', 'ok')
+        self.assert_fault('./none: No such file or directory', 'ok', '--run', './none', '--library', 'ok')
 
     def test_a_host_that_ends_at_once(self):
         self.assert_fault('/bin/false: the host of the library has ended, with status 1', 'ok', '--library', '/bin/false')
