@@ -11,7 +11,7 @@ from faults import Faults
 
 LONG = (8193, 65536, 65537, 1000000)  # bytes of parts that are too long
 # hosts that read the first request: one answers it and ends, one answers nonsense
-EARLY = '#!/bin/sh\nhead -c 49 > /dev/null\nhead -c 60 /dev/zero\necho "a word\nanother" >&2\nexit 3\n'
+EARLY = '#!/bin/sh\nhead -c 49 > /dev/null\nhead -c 60 /dev/zero\nexec <&- >&-\necho "a word\nanother" >&2\nsleep 0.3\nexit 3\n'
 WRONG = "#!/bin/sh\nhead -c 49 > /dev/null\nhead -c 60 /dev/zero | tr '\\0' '\\377'\n"
 
 

@@ -67,9 +67,15 @@ class Outputs(Page):
 
     def test_a_file_that_may_not_be_written_is_not_replaced(self):
         self.file('a.svg', b'earlier', mode=0o444)
-        denied = mock.Mock(side_effect=PermissionError(errno.EACCES, 'Permission denied'))  # to root all is permitted
-        with mock.patch('ptoca.files.open', denied, create=True):
-            self.assertRaisesRegex(Wrong, 'a.svg: Permission denied$', files.write, b'new', self.path('a.svg'))
+        path = os.path.realpath(self.path('a.svg'))
+
+        def denying(file, *words, **more):  # since to root all is permitted
+            if file == path:
+                raise PermissionError(errno.EACCES, 'Permission denied')
+            return open(file, *words, **more)
+
+        with mock.patch('ptoca.files.open', denying, create=True):
+            self.assertRaisesRegex(Wrong, 'a.svg: Permission denied$', files.write, b'new', path)
         with open(self.path('a.svg'), 'rb') as file:
             self.assertEqual(file.read(), b'earlier')
 

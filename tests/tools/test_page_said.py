@@ -1,6 +1,7 @@
 """What tools/page says about a sheet: caption, legend, why it is empty, what is out of range; and that it fits."""
 import unittest
 
+import paths  # makes the tools' modules importable
 from page.fitting import fitted, measure
 from pictures import SVG, drawn, group, having, of_text, texts
 
