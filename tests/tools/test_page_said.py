@@ -3,7 +3,8 @@ import unittest
 
 import paths  # makes the tools' modules importable
 from page.fitting import fitted, measure
-from pictures import SVG, drawn, group, having, of_text, texts
+from page.ranges import EXTENT, drawn_size
+from pictures import SVG, drawn, group, having, of, of_text, texts, tree_of
 
 GREATEST = 2**32 - 1
 PART = bytes.fromhex('2BD304C62F41C1')
@@ -19,7 +20,10 @@ A_TEXT, A_BOX, A_BARE_RULE = 'T 720 480 0 65287 0 65535 C1C2\n', 'T 720 480 0 65
 def job(records='', **numbers):
     """The picture of a job with these numbers."""
     line = ' '.join(str(number) for number in {**ENTRY, **numbers}.values())
-    return of_text(f'JOB {line}\n{records}END\n')
+    shown = of(f'JOB {line}\n{records}END\n')[0]
+    if max(drawn_size(shown)) > EXTENT:
+        raise AssertionError('the drawing of a sheet without a bound would fill the memory')
+    return tree_of(shown)
 
 
 def part(count, elements, records=''):
@@ -92,6 +96,7 @@ class Legend(unittest.TestCase):
         self.assertEqual(self.legend(part(0, 0)), [self.END])
         self.assertEqual(self.legend(job(i=-1)), [])
         self.assertEqual(self.legend(job(i=-1, state_margin=720)), ['the inline margin'])
+        self.assertEqual(self.legend(job(i=-1, state_margin=12240)), [])
         self.assertEqual(self.legend(part(1, 1, A_BOX)), [self.END, self.CORNERS, 'a byte that is no letter in code page 500'])
         self.assertEqual(self.legend(part(1, 1, A_BARE_RULE)), [self.END, self.CORNERS, 'a rule with no length or no width'])
 
