@@ -10,6 +10,7 @@ else
     RUN=$kit/on/$(uname -m)/toolchain/bin/qemu-x86_64
     LOAD="$RUN $kit/toolchain/lib/ld-linux-x86-64.so.2 --library-path $kit/toolchain/lib"
     if ! command -v $CXX >/dev/null; then
+        echo 'installing a compiler for x86-64: a minute or so' >&2
         { apt-get update && apt-get install -y --no-install-recommends gcc-x86-64-linux-gnu g++-x86-64-linux-gnu libc6-dev-amd64-cross; } >/dev/null 2>&1 ||
             { echo 'no compiler for x86-64: install gcc-x86-64-linux-gnu and g++-x86-64-linux-gnu' >&2; exit 1; }
     fi
