@@ -18,8 +18,8 @@ test:
 check:
 	rt check
 
-# the sources of some crates
-code = $(shell find $(addprefix crates/,$(1)) -name '*.rt' -o -name '*.antt') crates.txt
+# the sources of some crates, and their folders, which are newer where a file is gone
+code = $(shell find $(addprefix crates/,$(1)) -type d -o -name '*.rt' -o -name '*.antt') crates.txt
 
 # document 01's "Sheets to try", each row through the interpreter
 sheets: target/bin/sheets
