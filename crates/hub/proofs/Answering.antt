@@ -1,6 +1,6 @@
 -- Every request is answered with a code of its own, from any memory, and its two numbers are 0 unless the paper says otherwise.
 -- Assumes nothing.
-use Prim.Native.Nat.{ℕ, _≤_, _<_}
+use Prim.Native.Nat.{ℕ}
 use mathlib.Core.Path.{_≡_, refl, sym, _∙_}
 use mathlib.Core.Bool.{Bool, true, false, true≢false, or-true, not, _&&_}
 use mathlib.Core.Logic.{_⊎_, inl, inr}
@@ -8,7 +8,7 @@ use mathlib.Core.List.{List}
 use native.Mathlib.Omega.{arith}
 use lib.ListN.{length}
 use lib.Dec.{ltb, leb, eqb}
-use borrow.Author.Tests.{ltb-true, leb-true, eq-eqb, le-leb}
+use borrow.Author.Tests.{ltb-true, leb-true, eqb-true, not-true, eq-eqb, le-leb}
 use Rattle.part.specs.Numbers.{if_then_else_}
 use Rattle.part.specs.Checks.{Checked, fine, fault, require, _>>_}
 use Rattle.part.specs.Ranges.{upTo, _to_, _or_, _∈_, hold, descriptorFields, stateFields}
@@ -17,64 +17,71 @@ use Rattle.part.specs.Place.{Effect}
 use Rattle.part.specs.Part.{elements, admitted, outcome, answer, answered, interpreted}
 use Rattle.part.specs.declared.shapes.Descriptor.{Descriptor}
 use Rattle.part.specs.declared.shapes.State.{State}
-use Rattle.part.specs.declared.shapes.Answer.{Answer}
-use Rattle.part.proofs.Checks.{first-of, second-of, Gives, value, code-of}
+use Rattle.part.proofs.Checks.{first-of, second-of, Gives, value, refusal, OfCode, gives-only, gives-where, fault-of}
+use Rattle.part.proofs.Fits.{Coded}
 use Rattle.part.proofs.Kept.{cut-leaves}
-use Rattle.part.proofs.Refusals.{admitted-codes}
+use Rattle.part.proofs.Pointing.{points-inside, part-points}
 use Rattle.hub.specs.Entries.{isOpen, isOpenUnder, isOldKey, damaged}
 use Rattle.hub.specs.Requests.{mayOpen, judged, maySubmit, mayClose, out, decided, partTaken, opening, closing, submitting, areaOf, Hub, Request, Open, Submit, Close, slotOf, isLent, onEntry, step}
 use Rattle.hub.specs.Requests as requests
 use Rattle.hub.specs.Histories.{entryOf}
 use Rattle.hub.specs.Promises.{codesOf, OfTheTable, Answered}
 use Rattle.hub.specs.declared.jobs.Entry.{Entry}
-use Rattle.hub.specs.declared.jobs.Out.{Out}
 use Rattle.hub.proofs.Slots.{own-length}
 use Rattle.hub.proofs.Ranging.{in-range}
 use Rattle.hub.proofs.Deciding.{Refuses, SubmitTests, Here, here, whole, lent-widths, submit-tests}
 use Rattle.hub.proofs.Holding.{awaits}
 
--- a check that passes, or stops with one of some codes and no offset
-data Plain {A : Type 0} (Q : ℕ → Type 0) : Checked A → Type 0 where
-  passes : {a : A} → Plain Q (fine a)
-  stops : {code : ℕ} → Q code → Plain Q (fault code 0)
+-- one of the request's own codes that is no part's, with no offset
+abbrev Its : Request → ℕ → ℕ → Type 0
+Its r code at = (code ∈ codesOf r && not (code ∈ 20 to 29) && eqb at 0) ≡ true
 
-plain-test : {Q : ℕ → Type 0} (t : Bool) (code : ℕ) → Q code → Plain Q (require t code)
-plain-test true code q = passes
-plain-test false code q = stops q
-
-plain-where : {A : Type 0} {Q : ℕ → Type 0} (t : Bool) (code : ℕ) {m : Checked A} → Q code → Plain Q m → Plain Q (require t code >> m)
-plain-where true code q m = m
-plain-where false code q m = stops q
-
-abbrev Its : Request → ℕ → Type 0
-Its r code = (code ∈ codesOf r) ≡ true
-
--- numbers that are 0 are right with any code
-plain : (r : Request) (code : ℕ) → Its r code → OfTheTable r (answer code 0 0)
-plain r code its = record { code = its; first = λ _. refl; second = λ _. refl }
+-- its numbers are 0
+plain : (r : Request) (code at : ℕ) → Its r code at → OfTheTable r (answer code at 0)
+plain r code at its =
+    let one = code ∈ codesOf r && not (code ∈ 20 to 29) in
+    let both = first-of one (eqb at 0) its in
+    record {
+      code = first-of (code ∈ codesOf r) (not (code ∈ 20 to 29)) both;
+      first = λ _. eqb-true at 0 (second-of one (eqb at 0) its);
+      second = λ _. refl;
+      inside = λ c. absurd (true≢false (sym c ∙ not-true (code ∈ 20 to 29) (second-of (code ∈ codesOf r) (not (code ∈ 20 to 29)) both)));
+    }
 
 -- ---- open and close
 
-decided-plain : {m : Checked Unit} (r : Request) (e f : Entry) → Its r 0 → Plain (Its r) m → OfTheTable r (decided e m (out f (answer 0 0 0)) .answer)
-decided-plain r e f nought passes = plain r 0 nought
-decided-plain r e f nought (stops {code} its) = plain r code its
+-- a check that passes, or stops so
+abbrev Plain : Request → Checked Unit → Type 0
+Plain r m = Gives (λ _. Unit) (Its r) m
 
-open-plain : (slot key : ℕ) (d : Descriptor) (e : Entry) → Plain (Its (Open slot key d)) (mayOpen key d e)
+decided-plain : {m : Checked Unit} (r : Request) (e f : Entry) → Its r 0 0 → Plain r m → OfTheTable r (decided e m (out f (answer 0 0 0)) .answer)
+decided-plain r e f nought (value _) = plain r 0 0 nought
+decided-plain r e f nought (refusal {code} {at} its) = plain r code at its
+
+open-plain : (slot key : ℕ) (d : Descriptor) (e : Entry) → Plain (Open slot key d) (mayOpen key d e)
 unfolding mayOpen
 open-plain slot key d e =
-    plain-where (not (damaged e)) 12 refl
-    (plain-where (not (isOpenUnder e key)) 1 refl (plain-where (not (isOpen e)) 13 refl (plain-where (not (isOldKey e key)) 14 refl (plain-test (hold (descriptorFields d)) 15 refl))))
+    gives-where (not (damaged e)) 12 _ refl λ _.
+    gives-where (not (isOpenUnder e key)) 1 _ refl λ _.
+    gives-where (not (isOpen e)) 13 _ refl λ _.
+    gives-where (not (isOldKey e key)) 14 _ refl λ _.
+    gives-only (hold (descriptorFields d)) 15 refl
 
-close-plain : (slot key : ℕ) (e : Entry) → Plain (Its (Close slot key)) (mayClose key e)
+close-plain : (slot key : ℕ) (e : Entry) → Plain (Close slot key) (mayClose key e)
 unfolding mayClose
 close-plain slot key e =
-    plain-where (not (damaged e)) 12 refl (plain-where (not (not (isOpen e) && eqb (e .key) key && ltb 0 key)) 1 refl (plain-test (isOpenUnder e key) 16 refl))
+    gives-where (not (damaged e)) 12 _ refl λ _.
+    gives-where (not (not (isOpen e) && eqb (e .key) key && ltb 0 key)) 1 _ refl λ _.
+    gives-only (isOpenUnder e key) 16 refl
 
-submit-plain : (slot key number : ℕ) (part : List ℕ) (e : Entry) → Plain (Its (Submit slot key number part)) (maySubmit key number e)
+submit-plain : (slot key number : ℕ) (part : List ℕ) (e : Entry) → Plain (Submit slot key number part) (maySubmit key number e)
 unfolding maySubmit judged
 submit-plain slot key number part e =
-    plain-where (not (damaged e)) 12 refl
-    (plain-where (isOpenUnder e key) 16 refl (plain-where (number ∈ 1 to 65535) 17 refl (plain-where (leb (e .next) number) 1 refl (plain-test (leb number (e .next)) 18 refl))))
+    gives-where (not (damaged e)) 12 _ refl λ _.
+    gives-where (isOpenUnder e key) 16 _ refl λ _.
+    gives-where (number ∈ 1 to 65535) 17 _ refl λ _.
+    gives-where (leb (e .next) number) 1 _ refl λ _.
+    gives-only (leb number (e .next)) 18 refl
 
 -- ---- a part: 19 comes before its elements, and has no offset
 
@@ -84,7 +91,7 @@ module _ (widths : List ℕ) (d : Descriptor) (s : State) (part area : List ℕ)
   coded h = go (leb (length part) 8192) (rw (eq-eqb (length area) 4096 long, eq-eqb (length widths) 1024 table, sh, dh) at h)
     where
       go : {code at : ℕ} (t : Bool) → (require t 19 >> elements widths d s (cut (s .chain) part)) ≡ fault code at → ((code ≡ 19) × (at ≡ 0)) ⊎ ((code ∈ 20 to 29) ≡ true)
-      go true h = inr (code-of (elements widths d s (cut (s .chain) part)) (cut-leaves widths d dh s (s .chain) part) h)
+      go true h = inr (fault-of {Q = OfCode Coded} (elements widths d s (cut (s .chain) part)) (cut-leaves widths d dh s (s .chain) part) h)
       go false h = inl (cc, cc)
 
   part-answered : (slot key number : ℕ) → OfTheTable (Submit slot key number part) (interpreted widths d s part area .answer)
@@ -94,20 +101,21 @@ module _ (widths : List ℕ) (d : Descriptor) (s : State) (part area : List ℕ)
       r : Request
       r = Submit slot key number part
 
-      either : {code at : ℕ} → ((code ≡ 19) × (at ≡ 0)) ⊎ ((code ∈ 20 to 29) ≡ true) → OfTheTable r (answer code at 0)
-      either {code} {at} (inl (a, b)) = rw (a, b) (plain r 19 refl)
-      either {code} {at} (inr c) =
+      either : {code at : ℕ} → outcome widths d s part area ≡ fault code at → ((code ≡ 19) × (at ≡ 0)) ⊎ ((code ∈ 20 to 29) ≡ true) → OfTheTable r (answer code at 0)
+      either {code} {at} e (inl (a, b)) = rw (a, b) (plain r 19 0 refl)
+      either {code} {at} e (inr c) =
           let least = leb-true 20 code (first-of (leb 20 code) (leb code 29) c) in
           let most = second-of (leb 20 code) (leb code 29) c in
           record {
             code = rw (le-leb 16 code (omega arith), most) (or-true (code ∈ upTo 1 or 10 to 12));
             first = λ no. absurd (true≢false (sym (or-true (eqb code 0)) ∙ (rw c at no)));
             second = λ _. refl;
+            inside = λ _. points-inside (part-points widths d s part area e c);
           }
 
       go : (count : ℕ) (m : Checked Effect) → outcome widths d s part area ≡ m → OfTheTable r (answered count s m .answer)
-      go count (fine f) e = record { code = refl; first = λ no. absurd (true≢false no); second = λ no. absurd (true≢false no) }
-      go count (fault code at) e = either (coded e)
+      go count (fine f) e = record { code = refl; first = λ no. absurd (true≢false no); second = λ no. absurd (true≢false no); inside = λ no. absurd (true≢false (sym no)) }
+      go count (fault code at) e = either e (coded e)
 
 -- ---- any request
 
@@ -122,13 +130,13 @@ module _ (widths : List ℕ) (h : Hub) where
       long : length (areaOf (h .records) slot) ≡ 4096
       long = own-length (h .records) slot (whole widths h slot key number part x) (x .low)
 
-      go : (m : Checked Unit) → Plain (Its (Submit slot key number part)) m → Gives (λ _. SubmitTests key number e) Refuses m
+      go : (m : Checked Unit) → Plain (Submit slot key number part) m → Gives (λ _. SubmitTests key number e) Refuses m
           → OfTheTable (Submit slot key number part) (decided e m (partTaken e (interpreted widths (e .descriptor) (e .state) part (areaOf (h .records) slot))) .answer)
-      go (fine _) passes (value tests) =
+      go (fine _) _ (value tests) =
           let waits = awaits key number e tests in
           let ranges = in-range e (waits .is) (waits .undamaged) in
           part-answered widths (e .descriptor) (e .state) part (areaOf (h .records) slot) long (lent-widths widths h slot key number part x) (ranges .state) (ranges .descriptor) slot key number
-      go _ (stops {code} its) g = plain (Submit slot key number part) code its
+      go (fault code at) (refusal its) g = plain (Submit slot key number part) code at its
 
   its-answered : (r : Request) → Here widths h r → OfTheTable r (onEntry widths h r (entryOf h (slotOf r)) .answer)
   unfolding opening closing
@@ -137,14 +145,14 @@ module _ (widths : List ℕ) (h : Hub) where
   its-answered (Close slot key) x = decided-plain (Close slot key) (entryOf h slot) _ refl (close-plain slot key (entryOf h slot))
 
   wrong : (r : Request) → OfTheTable r (requests.refusal 10)
-  wrong (Open slot key d) = plain _ 10 refl
-  wrong (Submit slot key number part) = plain _ 10 refl
-  wrong (Close slot key) = plain _ 10 refl
+  wrong (Open slot key d) = plain _ 10 0 refl
+  wrong (Submit slot key number part) = plain _ 10 0 refl
+  wrong (Close slot key) = plain _ 10 0 refl
 
   above : (r : Request) → OfTheTable r (requests.refusal 11)
-  above (Open slot key d) = plain _ 11 refl
-  above (Submit slot key number part) = plain _ 11 refl
-  above (Close slot key) = plain _ 11 refl
+  above (Open slot key d) = plain _ 11 0 refl
+  above (Submit slot key number part) = plain _ 11 0 refl
+  above (Close slot key) = plain _ 11 0 refl
 
 pub answers : Answered
 unfolding step

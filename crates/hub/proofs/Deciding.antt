@@ -23,8 +23,8 @@ use Rattle.hub.proofs.Slots.{with-same}
 
 -- ---- where a check passes, so has each of its tests; where it doesn't, its code isn't 0
 
-abbrev pub Refuses : ℕ → Type 0
-Refuses code = eqb code 0 ≡ false
+abbrev pub Refuses : ℕ → ℕ → Type 0
+Refuses code at = eqb code 0 ≡ false
 
 pub record OpenTests (key : ℕ) (d : Descriptor) (e : Entry) : Type 0 where
   pub newKey : isOldKey e key ≡ false
@@ -47,7 +47,7 @@ open-tests key d e =
     gives-where (not (isOpenUnder e key)) 1 _ refl λ _.
     gives-where (not (isOpen e)) 13 _ refl λ _.
     gives-where (not (isOldKey e key)) 14 _ refl λ newKey.
-    gives-so (λ _ ranges. record { newKey = not-true (isOldKey e key) newKey; ranges = ranges }) (λ _ q. q) (gives-test (hold (descriptorFields d)) 15 refl)
+    gives-so (λ _ ranges. record { newKey = not-true (isOldKey e key) newKey; ranges = ranges }) (λ _ _ q. q) (gives-test (hold (descriptorFields d)) 15 refl)
 
 pub submit-tests : (key number : ℕ) (e : Entry) → Gives (λ _. SubmitTests key number e) Refuses (maySubmit key number e)
 unfolding maySubmit judged
@@ -56,14 +56,14 @@ submit-tests key number e =
     gives-where (isOpenUnder e key) 16 _ refl λ under.
     gives-where (number ∈ 1 to 65535) 17 _ refl λ good.
     gives-where (leb (e .next) number) 1 _ refl λ isNew.
-    gives-so (λ _ isNear. record { undamaged = not-true (damaged e) undamaged; under = under; good = good; isNew = isNew; isNear = isNear }) (λ _ q. q) (gives-test (leb number (e .next)) 18 refl)
+    gives-so (λ _ isNear. record { undamaged = not-true (damaged e) undamaged; under = under; good = good; isNew = isNew; isNear = isNear }) (λ _ _ q. q) (gives-test (leb number (e .next)) 18 refl)
 
 pub close-tests : (key : ℕ) (e : Entry) → Gives (λ _. CloseTests key e) Refuses (mayClose key e)
 unfolding mayClose
 close-tests key e =
     gives-where (not (damaged e)) 12 _ refl λ _.
     gives-where (not (not (isOpen e) && eqb (e .key) key && ltb 0 key)) 1 _ refl λ _.
-    gives-so (λ _ under. record { under = under }) (λ _ q. q) (gives-test (isOpenUnder e key) 16 refl)
+    gives-so (λ _ under. record { under = under }) (λ _ _ q. q) (gives-test (isOpenUnder e key) 16 refl)
 
 module _ (widths : List ℕ) (h : Hub) where
   -- ---- all lengths are right and the slot is one: the request comes to its entry
@@ -112,7 +112,7 @@ module _ (widths : List ℕ) (h : Hub) where
   Passed (Close slot key) = (mayClose key (entryOf h slot) ≡ fine tt) × CloseTests key (entryOf h slot)
 
   pub data Decision (r : Request) : Type 0 where
-    refused : Refuses (step widths h r .answer .code) → step widths h r .after ≡ h → Decision r
+    refused : eqb (step widths h r .answer .code) 0 ≡ false → step widths h r .after ≡ h → Decision r
     done : step widths h r .answer .code ≡ 0 → Here r → Passed r → Decision r
 
   -- an entry put back as it was, beside the same records

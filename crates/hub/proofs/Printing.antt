@@ -143,7 +143,7 @@ area-low records slot used =
     omega arith
 
 -- all that the rules give for some parts lies on the sheet
-parts-on-sheet : (widths : List ℕ) (d : Descriptor) (s : State) (ps : List (List ℕ)) → Gives (OnSheet widths d) (λ _. Unit) (partsFrom widths d s ps)
+parts-on-sheet : (widths : List ℕ) (d : Descriptor) (s : State) (ps : List (List ℕ)) → Gives (OnSheet widths d) (λ _ _. Unit) (partsFrom widths d s ps)
 unfolding partsFrom
 parts-on-sheet widths d s [] = value refl
 parts-on-sheet widths d s (p ∷ ps) =

@@ -22,7 +22,8 @@ use Rattle.hub.specs.Histories.{entryOf, account}
 use Rattle.hub.specs.declared.jobs.Entry.{Entry}
 
 -- ---- ANSWERED (demand 1): any request, whatever is lent, is answered with a code of the table that is one of its own. Its two numbers are 0
--- unless said: a part that is done has its elements and its record bytes, and 20 to 29 an offset.
+-- unless said: a part that is done has its elements and its record bytes, and 20 to 29 the offset of a byte of the part, which can be looked
+-- at without a test (which byte: `Pointing` of the part's rule book).
 
 abbrev pub codesOf : Request → Range
 codesOf (Open slot key d) = upTo 1 or 10 to 15
@@ -34,10 +35,17 @@ isSubmit (Open slot key d) = false
 isSubmit (Submit slot key number part) = true
 isSubmit (Close slot key) = false
 
+-- the bytes that a request sends
+abbrev pub partOf : Request → List ℕ
+partOf (Open slot key d) = []
+partOf (Submit slot key number part) = part
+partOf (Close slot key) = []
+
 pub record OfTheTable (r : Request) (a : Answer) : Type 0 where
   pub code : (a .code ∈ codesOf r) ≡ true
   pub first : (isSubmit r && a .code ∈ only 0 or 20 to 29) ≡ false → a .first ≡ 0
   pub second : (isSubmit r && a .code ∈ only 0) ≡ false → a .second ≡ 0
+  pub inside : (a .code ∈ 20 to 29) ≡ true → a .first < length (partOf r)
 
 abbrev pub Answered : Type 0
 Answered = (widths : List ℕ) (h : Hub) (r : Request) → OfTheTable r (step widths h r .answer)

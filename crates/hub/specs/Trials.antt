@@ -154,7 +154,7 @@ trials =
     ∷ lone (ongoing 4) 7 0 aPart (ongoing 4) (gives 16 0 0)
     ∷ lone broken 7 4 aPart broken (gives 12 0 0)
     ∷ lone (ongoing 4) 6 4 (replicate 8193 0x2B) (ongoing 4) (gives 19 0 0)
-    ∷ submits (ongoing 4) (Submit 2 6 4 (hex 0xC1_2BD304C68000)) (gives 24 1 0) (ongoing 4) [] 1
+    ∷ submits (ongoing 4) (Submit 2 6 4 (hex 0xC1_2BD304C68000)) (gives 24 5 0) (ongoing 4) [] 1
     -- 10 before 11, and 11 before the entry; open and close are lent the table only; another length counts 0
     ∷ turned 1024 (replicate 15 (ongoing 4)) [] (Open 16 7 job) 10 0
     ∷ turned 1024 (replicate 17 (ongoing 4)) [] (Close 3 6) 10 0

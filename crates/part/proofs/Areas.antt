@@ -13,7 +13,7 @@ use Rattle.part.specs.Place.{Effect}
 use Rattle.part.specs.Part.{elements, outcome, written, areaAfter}
 use Rattle.part.specs.declared.shapes.Descriptor.{Descriptor}
 use Rattle.part.specs.declared.shapes.State.{State}
-use Rattle.part.proofs.Checks.{Gives, value, refusal, value-of}
+use Rattle.part.proofs.Checks.{Gives, value, refusal, OfCode, value-of}
 use Rattle.part.proofs.Parts.{elements-grown}
 use Rattle.part.proofs.Outcomes.{Done, Refusal, outcome-leaves}
 
@@ -32,6 +32,6 @@ pub area-length : (widths : List ℕ) (d : Descriptor) (s : State) (part area : 
 unfolding areaAfter
 area-length widths d s part area = go (outcome widths d s part area) (outcome-leaves widths d s part area)
   where
-    go : (m : Checked Effect) → Gives (Done s area) Refusal m → length (written area (s .used) m) ≡ length area
+    go : (m : Checked Effect) → Gives (Done s area) (OfCode Refusal) m → length (written area (s .used) m) ≡ length area
     go (fine f) (value done) = spliced-length area (s .used) (allBytes (f .items)) (done .fits)
     go (fault code at) (refusal q) = refl

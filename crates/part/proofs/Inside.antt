@@ -27,7 +27,7 @@ module _ (widths : List ℕ) (d : Descriptor) where
   OnSheet f = allOnSheet widths d (f .items) ≡ true
 
   abbrev Shows : Checked Effect → Type 0
-  Shows m = Gives OnSheet (λ _. Unit) m
+  Shows m = Gives OnSheet (λ _ _. Unit) m
 
   -- a text's own numbers are the state's
   abbrev itsText : State → List ℕ → ShownText
@@ -35,7 +35,7 @@ module _ (widths : List ℕ) (d : Descriptor) where
 
   -- one character that is shown lies on the sheet, and the next one begins behind its advance
   character-on : (s : State) (i c : ℕ) → hides d s ≡ false
-      → Gives (λ j. (onSheet d (point i (s .at .b)) (widthOf widths s c) 0 ≡ true) × (j ≡ i + (widthOf widths s c + plus s) - minus s)) (λ _. Unit) (character widths d s i c)
+      → Gives (λ j. (onSheet d (point i (s .at .b)) (widthOf widths s c) 0 ≡ true) × (j ≡ i + (widthOf widths s c + plus s) - minus s)) (λ _ _. Unit) (character widths d s i c)
   unfolding character moved
   character-on s i c shown =
       let on = onSheet d (point i (s .at .b)) (widthOf widths s c) 0 in
@@ -43,12 +43,12 @@ module _ (widths : List ℕ) (d : Descriptor) where
       gives-where (hides d s || on) 27 _ tt λ a.
       gives-where (leb (minus s) to && leb to (last + minus s)) 28 (fine (to - minus s)) tt (λ _. value (rw shown at a, refl))
 
-  characters-on : (s : State) (all : List ℕ) (i : ℕ) (cs : List ℕ) → hides d s ≡ false → Gives (λ _. areOnSheet widths d (drawn (itsText s all)) i cs ≡ true) (λ _. Unit) (characters widths d s i cs)
+  characters-on : (s : State) (all : List ℕ) (i : ℕ) (cs : List ℕ) → hides d s ≡ false → Gives (λ _. areOnSheet widths d (drawn (itsText s all)) i cs ≡ true) (λ _ _. Unit) (characters widths d s i cs)
   unfolding characters
   characters-on s all i [] shown = value refl
   characters-on s all i (c ∷ cs) shown =
       gives-then (character widths d s i c) _ (character-on s i c shown) λ j here.
-      gives-so (λ _ rest. rw (here .0, ← (here .1)) rest) (λ _ _. tt) (characters-on s all j cs shown)
+      gives-so (λ _ rest. rw (here .0, ← (here .1)) rest) (λ _ _ _. tt) (characters-on s all j cs shown)
 
   text-on : (s : State) (cs : List ℕ) → Shows (placeText widths d s cs)
   unfolding placeText

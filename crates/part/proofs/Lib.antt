@@ -14,10 +14,12 @@ pub mod Inks
 pub mod Inside
 pub mod Kept
 pub mod Lines
+pub mod Nearer
 pub mod Outcomes
 pub mod Parts
 pub mod Places
 pub mod Placing
+pub mod Pointing
 pub mod Reading
 pub mod Refusals
 pub mod Rooms

@@ -15,7 +15,7 @@ use Rattle.part.specs.Place.{Effect}
 use Rattle.part.specs.Part.{admitted, outcome, answered, interpreted}
 use Rattle.part.specs.declared.shapes.Descriptor.{Descriptor}
 use Rattle.part.specs.declared.shapes.State.{State}
-use Rattle.part.proofs.Checks.{Gives, value, refusal, gives-then, gives-test, gives-where, gives-so, gives-both, first-of}
+use Rattle.part.proofs.Checks.{Gives, value, refusal, OfCode, gives-then, gives-test, gives-where, gives-so, gives-both, first-of}
 use Rattle.part.proofs.Bounds.{used-fits}
 use Rattle.part.proofs.Parts.{elements-grown}
 use Rattle.part.proofs.Kept.{cut-leaves}
@@ -34,7 +34,7 @@ abbrev pub Refusal : ℕ → Type 0
 Refusal code = (code ∈ 20 to 29 or only 10 or only 12 or only 15 or only 19) ≡ true
 
 module _ (widths : List ℕ) (d : Descriptor) (s : State) (part area : List ℕ) where
-  admits : Gives (λ _. Admitted d s area) Refusal (admitted widths d s part area)
+  admits : Gives (λ _. Admitted d s area) (OfCode Refusal) (admitted widths d s part area)
   unfolding admitted
   admits =
       let whole = eqb (length area) 4096 in
@@ -42,15 +42,15 @@ module _ (widths : List ℕ) (d : Descriptor) (s : State) (part area : List ℕ)
       gives-where (whole && table) 10 _ refl λ a.
       gives-where (hold (stateFields s)) 12 _ refl λ b.
       gives-where (hold (descriptorFields d)) 15 _ refl λ c.
-      gives-so (λ _ _. record { whole = eqb-true _ _ (first-of whole table a); state = b; descriptor = c }) (λ _ q. q) (gives-test (leb (length part) 8192) 19 refl)
+      gives-so (λ _ _. record { whole = eqb-true _ _ (first-of whole table a); state = b; descriptor = c }) (λ _ _ q. q) (gives-test (leb (length part) 8192) 19 refl)
 
-  pub outcome-leaves : Gives (Done s area) Refusal (outcome widths d s part area)
+  pub outcome-leaves : Gives (Done s area) (OfCode Refusal) (outcome widths d s part area)
   unfolding outcome
   outcome-leaves =
       gives-then (admitted widths d s part area) _ admits λ _ ok.
       let whole = ok .whole in
       let least = used-fits s (ok .state) in
-      gives-so (λ f leaves. let grows = leaves .0 .grows in let most = leaves .0 .fits least in record { fits = omega arith; kept = leaves .1 (ok .state) }) (λ code q. rw (q .1))
+      gives-so (λ f leaves. let grows = leaves .0 .grows in let most = leaves .0 .fits least in record { fits = omega arith; kept = leaves .1 (ok .state) }) (λ code at q. rw (q .1))
       (gives-both (elements-grown widths d s _) (cut-leaves widths d (ok .descriptor) s (s .chain) part))
 
   -- A state in range is followed by one in range, whatever is answered.
@@ -58,6 +58,6 @@ module _ (widths : List ℕ) (d : Descriptor) (s : State) (part area : List ℕ)
   unfolding interpreted
   interpreted-kept h = go _ (outcome widths d s part area) outcome-leaves
     where
-      go : (count : ℕ) (m : Checked Effect) → Gives (Done s area) Refusal m → hold (stateFields (answered count s m .state)) ≡ true
+      go : (count : ℕ) (m : Checked Effect) → Gives (Done s area) (OfCode Refusal) m → hold (stateFields (answered count s m .state)) ≡ true
       go count (fine f) (value done) = done .kept
       go count (fault code at) (refusal q) = h

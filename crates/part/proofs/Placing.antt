@@ -1,4 +1,4 @@
--- Placing an element: the bytes used stay, all numbers stay in range, and a fault's code is from 20 to 29.
+-- Placing an element: the bytes used stay, all numbers stay in range, and a fault is from 26 to 29 and keeps the element's start.
 -- Assumes nothing.
 use Prim.Native.Nat.{ℕ, _+_, _-_, _≤_}
 use mathlib.Core.Path.{_≡_, refl}
@@ -11,7 +11,7 @@ use borrow.Author.Tests.{leb-true, le-leb}
 use Rattle.part.specs.Numbers.{if_then_else_, origin, last, ones, signed}
 use Rattle.part.specs.Checks.{fine}
 use Rattle.part.specs.States.{point}
-use Rattle.part.specs.Ranges.{Range, Field, upTo, only, colours, _or_, _∈_, _within_, hold, descriptorFields, stateFields}
+use Rattle.part.specs.Ranges.{Range, Field, upTo, only, colours, _to_, _or_, _∈_, _within_, hold, descriptorFields, stateFields}
 use Rattle.part.specs.Elements.{Element, Text, RepeatString, AbsoluteMoveInline, AbsoluteMoveBaseline, RelativeMoveInline, RelativeMoveBaseline, BeginLine, SetInlineMargin, SetBaselineIncrement, SetIntercharacterAdjustment, SetVariableSpace, SetCodedFont, SetTextColor, SetTextOrientation, BeginSuppression, EndSuppression, DrawRule, NoOperation}
 use Rattle.part.specs.Presenting.{default, moved, onSheet, hides}
 use Rattle.part.specs.Text.{widthOf, plus, minus, character, characters, cycle}
@@ -20,11 +20,15 @@ use Rattle.part.specs.declared.shapes.Descriptor.{Descriptor}
 use Rattle.part.specs.declared.shapes.State.{State}
 use Rattle.part.proofs.Checks.{Gives, value, gives-then, gives-where, gives-so, first-of, second-of}
 use Rattle.part.proofs.Fields.{held, changed}
-use Rattle.part.proofs.Fits.{Fits, Coded}
+use Rattle.part.proofs.Fits.{Fits}
 
 -- all numbers stay in range if the descriptor's are, and where the element's are
 abbrev pub Kept : Descriptor → State → Type 0 → Effect → Type 0
 Kept d s Ok f = hold (descriptorFields d) ≡ true → Ok → hold (stateFields s) ≡ true → hold (stateFields (f .state)) ≡ true
+
+-- a fault of placing: its code, at the element's start
+abbrev pub Unplaced : ℕ → ℕ → Type 0
+Unplaced code at = (code ∈ 26 to 29 && eqb at 0) ≡ true
 
 pub record Leaves (d : Descriptor) (s : State) (e : Element) (f : Effect) : Type 0 where
   pub used : f .state .used ≡ s .used
@@ -35,7 +39,7 @@ pub record Leaves (d : Descriptor) (s : State) (e : Element) (f : Effect) : Type
 abbrev pub Position : ℕ → Type 0
 Position n = (n ∈ upTo last) ≡ true
 
-pub moved-fits : (n forth back : ℕ) → Gives Position Coded (moved n forth back)
+pub moved-fits : (n forth back : ℕ) → Gives Position Unplaced (moved n forth back)
 unfolding moved
 moved-fits n forth back =
     gives-where (leb back (n + forth) && leb (n + forth) (last + back)) 28 (fine (n + forth - back)) refl λ t.
@@ -43,13 +47,13 @@ moved-fits n forth back =
     value (le-leb (n + forth - back) last (omega arith))
 
 module _ (widths : List ℕ) (d : Descriptor) (s : State) where
-  pub characters-fit : (i : ℕ) (cs : List ℕ) → Gives (λ j. Position i → Position j) Coded (characters widths d s i cs)
+  pub characters-fit : (i : ℕ) (cs : List ℕ) → Gives (λ j. Position i → Position j) Unplaced (characters widths d s i cs)
   unfolding character characters
   characters-fit i [] = value (λ ok. ok)
   characters-fit i (c ∷ cs) =
       gives-then (character widths d s i c) (λ j. characters widths d s j cs)
       (gives-where (hides d s || onSheet d (point i (s .at .b)) (widthOf widths s c) 0) 27 _ refl (λ _. moved-fits i (widthOf widths s c + plus s) (minus s)))
-      (λ j ok. gives-so (λ k on _. on ok) (λ _ q. q) (characters-fit j cs))
+      (λ j ok. gives-so (λ k on _. on ok) (λ _ _ q. q) (characters-fit j cs))
 
 -- all ones, or a number in range: then the descriptor's, or that number, is in range
 pub default-fits : (range : Range) (all v other : ℕ) → (v ∈ range or only all) ≡ true → (other ∈ range) ≡ true → (default all v other ∈ range) ≡ true
@@ -66,28 +70,28 @@ defaulted fs k range all v other h ok there = changed fs k (default all v other 
 -- ---- elements
 
 module _ (widths : List ℕ) (d : Descriptor) (s : State) where
-  leaves : {e : Element} {f : Effect} → f .state .used ≡ s .used → Kept d s (Fits e) f → Gives (Leaves d s e) Coded (fine f)
+  leaves : {e : Element} {f : Effect} → f .state .used ≡ s .used → Kept d s (Fits e) f → Gives (Leaves d s e) Unplaced (fine f)
   leaves used kept = value (record { used = used; kept = kept })
 
-  text-leaves : (e : Element) (cs : List ℕ) → Gives (Leaves d s e) Coded (placeText widths d s cs)
+  text-leaves : (e : Element) (cs : List ℕ) → Gives (Leaves d s e) Unplaced (placeText widths d s cs)
   unfolding placeText stateFields
   text-leaves e cs =
       gives-then (characters widths d s (s .at .i) cs) _ (characters-fit widths d s (s .at .i) cs) λ i ok.
       leaves refl (λ _ _ h. changed (stateFields s) 0 (i within upTo last) h (ok (held (stateFields s) 0 h)))
 
-  inline-leaves : (e : Element) (n forth back : ℕ) → Gives (Leaves d s e) Coded (toInline s (moved n forth back))
+  inline-leaves : (e : Element) (n forth back : ℕ) → Gives (Leaves d s e) Unplaced (toInline s (moved n forth back))
   unfolding stateFields
   inline-leaves e n forth back =
       gives-then (moved n forth back) _ (moved-fits n forth back) λ i ok.
       leaves refl (λ _ _ h. changed (stateFields s) 0 (i within upTo last) h ok)
 
-  baseline-leaves : (e : Element) (n forth back : ℕ) → Gives (Leaves d s e) Coded (toBaseline s (moved n forth back))
+  baseline-leaves : (e : Element) (n forth back : ℕ) → Gives (Leaves d s e) Unplaced (toBaseline s (moved n forth back))
   unfolding stateFields
   baseline-leaves e n forth back =
       gives-then (moved n forth back) _ (moved-fits n forth back) λ b ok.
       leaves refl (λ _ _ h. changed (stateFields s) 1 (b within upTo last) h ok)
 
-  pub place-leaves : (e : Element) → Gives (Leaves d s e) Coded (place widths d s e)
+  pub place-leaves : (e : Element) → Gives (Leaves d s e) Unplaced (place widths d s e)
   unfolding place placeRule stateFields descriptorFields
   place-leaves (Text cs) = text-leaves _ cs
   place-leaves (RepeatString cs count) = text-leaves _ (cycle cs 0 count)

@@ -11,11 +11,11 @@ use lib.Seq.{take-append-le, drop-append-le}
 use lib.Dec.{leb, eqb}
 use borrow.Author.Tests.{leb-true, le-leb, eqb-false}
 use Rattle.part.specs.Numbers.{if_then_else_}
-use Rattle.part.specs.Checks.{Checked, fine, fault, require, _>>=_, _>>_}
+use Rattle.part.specs.Checks.{Checked, fine, fault, require, requireAt, startingAt, _>>=_, _>>_}
 use Rattle.part.specs.Elements.{Element}
 use Rattle.part.specs.Types.{function, chaining, Row, types, rowOf, valuesOf, _takes_}
 use Rattle.part.specs.Reading.{Found, found, between, sequence, stretch, freeRun, introduced, element}
-use Rattle.part.proofs.Checks.{went-on, tested}
+use Rattle.part.proofs.Checks.{went-on, tested, tested-at, value-at}
 
 -- ---- sequences
 
@@ -38,21 +38,22 @@ module _ (at : ℕ) (xs : List ℕ) (f : Found) (h : sequence at xs ≡ fine f) 
   complete =
       let n = getD xs at 0 in
       let type = getD xs (at + 1) 0 in
-      let values : Row → Checked Element = λ r. r .values (between xs (at + 2) (at + n)) in
+      let values : Row → Checked Element = λ r. startingAt (at + 2) (r .values (between xs (at + 2) (at + n))) in
       let last : Row → Checked Found = λ r. values r >>= (λ e. found e (at + n) (chaining type)) in
       let body : Row → Checked Found = λ r. require (leb (at + n) (length xs)) 20 >> last r in
-      let rest : Row → Checked Found = λ r. require (r .lengths takes n) 22 >> body r in
-      let p = tested (leb (at + 2) (length xs)) 20 (require (leb 2 n) 22 >> (rowOf types (function type) >>= rest)) h in
-      let q = tested (leb 2 n) 22 (rowOf types (function type) >>= rest) (p .1) in
-      let r = went-on (rowOf types (function type)) rest (q .1) in
-      let s = tested (r .0 .lengths takes n) 22 (body (r .0)) (r .2) in
+      let rest : Row → Checked Found = λ r. requireAt at (r .lengths takes n) 22 >> body r in
+      let its : Checked Row = startingAt (at + 1) (rowOf types (function type)) in
+      let p = tested (leb (at + 2) (length xs)) 20 (requireAt at (leb 2 n) 22 >> (its >>= rest)) h in
+      let q = tested-at at (leb 2 n) 22 (its >>= rest) (p .1) in
+      let r = went-on its rest (q .1) in
+      let s = tested-at at (r .0 .lengths takes n) 22 (body (r .0)) (r .2) in
       let t = tested (leb (at + n) (length xs)) 20 (last (r .0)) (s .1) in
       let m = made (at + n) (chaining type) (values (r .0)) (t .1) in
       record {
         began = leb-true _ _ (p .0);
         counts = leb-true _ _ (q .0);
         ended = leb-true _ _ (t .0);
-        valued = rw (r .1) (m .0);
+        valued = rw (value-at (at + 1) (rowOf types (function type)) (r .1)) (value-at (at + 2) (r .0 .values (between xs (at + 2) (at + n))) (m .0));
         size = m .1;
         chains = m .2;
       }
@@ -114,7 +115,7 @@ kind-of chain xs f h = go (eqb chain 1) (eqb (getD xs 0 0) 0x2B) refl refl h
   where
     go : (s t : Bool) → eqb chain 1 ≡ s → eqb (getD xs 0 0) 0x2B ≡ t → (if s then sequence 0 xs else if t then introduced xs else freeRun xs) ≡ fine f → Kind chain xs f
     go true t c b h = chained c h
-    go false true c b h = let p = tested (eqb (getD xs 1 0xD3) 0xD3) 21 (sequence 2 xs) h in prefixed c b (p .0) (p .1)
+    go false true c b h = let p = tested-at 1 (eqb (getD xs 1 0xD3) 0xD3) 21 (sequence 2 xs) h in prefixed c b (p .0) (p .1)
     go false false c b h = free c b h
 
 -- An element that is whole in some bytes, and no free run that goes on to their end, is the same element whatever follows.

@@ -14,7 +14,7 @@ use Rattle.part.specs.Place.{Effect}
 use Rattle.part.specs.Part.{admitted, outcome, answered, written, interpreted, areaAfter}
 use Rattle.part.specs.declared.shapes.Descriptor.{Descriptor}
 use Rattle.part.specs.declared.shapes.State.{State}
-use Rattle.part.proofs.Checks.{gives-where, gives-so, code-of}
+use Rattle.part.proofs.Checks.{OfCode, gives-where, gives-so, fault-of}
 use Rattle.part.proofs.Bounds.{between}
 use Rattle.part.proofs.Kept.{cut-leaves}
 use Rattle.part.proofs.Outcomes.{outcome-leaves}
@@ -30,7 +30,7 @@ module _ (widths : List ℕ) (d : Descriptor) (s : State) (part area : List ℕ)
 
   -- 20 to 29, 10, 12, 15 or 19: never 0
   pub codes : {code at : ℕ} → outcome widths d s part area ≡ fault code at → (code ∈ 20 to 29 or only 10 or only 12 or only 15 or only 19) ≡ true
-  codes h = code-of (outcome widths d s part area) (outcome-leaves widths d s part area) h
+  codes h = fault-of (outcome widths d s part area) (outcome-leaves widths d s part area) h
 
   pub not-zero : {at : ℕ} → outcome widths d s part area ≡ fault 0 at → ⊥
   not-zero h = true≢false (sym (codes h))
@@ -48,8 +48,8 @@ module _ (widths : List ℕ) (d : Descriptor) (s : State) (part area : List ℕ)
   pub admitted-codes : {code at : ℕ} → length area ≡ 4096 → length widths ≡ 1024 → hold (stateFields s) ≡ true → hold (descriptorFields d) ≡ true → outcome widths d s part area ≡ fault code at → (19 ≤ code) × (code ≤ 29)
   unfolding outcome admitted
   admitted-codes long table sh dh h =
-      code-of {Q = λ code. (19 ≤ code) × (code ≤ 29)} _
-      (gives-where (leb (length part) 8192) 19 _ (omega arith, omega arith) (λ _. gives-so (λ _ stays. stays) within (cut-leaves widths d dh s (s .chain) part)))
+      fault-of {Q = OfCode (λ code. (19 ≤ code) × (code ≤ 29))} _
+      (gives-where (leb (length part) 8192) 19 _ (omega arith, omega arith) (λ _. gives-so (λ _ stays. stays) (λ code _. within code) (cut-leaves widths d dh s (s .chain) part)))
       (rw (eq-eqb (length area) 4096 long, eq-eqb (length widths) 1024 table, sh, dh) at h)
     where
       within : (code : ℕ) → (code ∈ 20 to 29) ≡ true → (19 ≤ code) × (code ≤ 29)

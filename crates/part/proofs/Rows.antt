@@ -4,20 +4,22 @@ use Prim.Native.Nat.{ℕ, zero, suc, _+_, _-_, _<_, _≤_}
 use mathlib.Core.Path.{_≡_, refl, sym, _∙_, ap}
 use mathlib.Core.Bool.{Bool, true, false, _&&_}
 use mathlib.Core.List.{List, [], _∷_}
+use native.Mathlib.Nat.{add-zero}
 use native.Mathlib.Numerals.{add-one}
 use native.Mathlib.Omega.{arith}
 use lib.ListN.{length, getD, drop, length-drop, drop-of-length-le}
 use lib.Seq.{length-take-le, drop-cons}
 use lib.Dec.{leb, eqb}
-use borrow.Author.Tests.{le-leb, lt-leb, leb-true, eq-eqb, ne-eqb, eqb-true}
+use borrow.Author.Tests.{le-leb, lt-leb, eq-eqb, ne-eqb, eqb-true}
 use Rattle.part.specs.Numbers.{if_then_else_}
-use Rattle.part.specs.Checks.{Checked, fine, fault, refuse, require, _>>=_, _>>_}
+use Rattle.part.specs.Checks.{Checked, fine, fault, refuse, require, requireAt, startingAt, _>>=_, _>>_}
 use Rattle.part.specs.Elements.{Element}
-use Rattle.part.specs.Types.{function, chaining, Lengths, Row, types, rowOf, _takes_}
+use Rattle.part.specs.Types.{function, chaining, Row, types, rowOf, _takes_}
 use Rattle.part.specs.Reading.{Found, found, between, sequence}
 use Rattle.part.specs.Code.{verdict, lengthsIn, fitted, cutShort}
 use Rattle.part.specs.declared.types.TypeRow.{TypeRow}
 use Rattle.part.proofs.Checks.{first-of, second-of}
+use Rattle.part.proofs.Fits.{least-taken}
 
 -- ---- the code's table and the rule book's: the same TYPEs and LENGTHs, row by row
 
@@ -46,69 +48,69 @@ same-takes c r n e =
     let final = eqb-true (c .1 .«hole_to») (r .lengths .holeTo) (second-of (eqb (c .1 .«hole_from») (r .lengths .holeFrom)) _ d) in
     rw (least, greatest, first, final)
 
--- a row of the code's table, asked for a sequence whose body is cut; and the table, from its first row on
-abbrev pub cutIf : Bool → Checked Unit
-cutIf t = require t 22 >> refuse 20
+-- a row of the code's table, asked for a sequence whose LENGTH stands at an offset and whose body is cut; and the table, from its first row on
+abbrev pub cutIf : ℕ → Bool → Checked Unit
+cutIf at t = requireAt at t 22 >> refuse 20
 
-abbrev pub cutRow : TypeRow → ℕ → Checked Unit
-cutRow c n = cutIf (lengthsIn c takes n)
+abbrev pub cutRow : ℕ → TypeRow → ℕ → Checked Unit
+cutRow at c n = cutIf at (lengthsIn c takes n)
 
-unfoldable pub cutBy : List TypeRow → ℕ → ℕ → Checked Unit
-cutBy [] code n = refuse 23
-cutBy (c ∷ cs) code n = if eqb (c .0) code then cutRow c n else cutBy cs code n
+unfoldable pub cutBy : ℕ → List TypeRow → ℕ → ℕ → Checked Unit
+cutBy at [] code n = startingAt (at + 1) (refuse 23)
+cutBy at (c ∷ cs) code n = if eqb (c .0) code then cutRow at c n else cutBy at cs code n
 
-tables : (cs : List TypeRow) (rs : List Row) (code n : ℕ) → agree cs rs ≡ true → cutBy cs code n ≡ (rowOf rs code >>= λ r. require (r .lengths takes n) 22 >> refuse 20)
+tables : (at : ℕ) (cs : List TypeRow) (rs : List Row) (code n : ℕ) → agree cs rs ≡ true → cutBy at cs code n ≡ (startingAt (at + 1) (rowOf rs code) >>= λ r. requireAt at (r .lengths takes n) 22 >> refuse 20)
 unfolding cutBy
-tables [] [] code n e = refl
-tables [] (r ∷ rs) code n e = cc
-tables (c ∷ cs) [] code n e = cc
-tables (c ∷ cs) (r ∷ rs) code n e =
+tables at [] [] code n e = refl
+tables at [] (r ∷ rs) code n e = cc
+tables at (c ∷ cs) [] code n e = cc
+tables at (c ∷ cs) (r ∷ rs) code n e =
     let one = first-of (sameRow c r) (agree cs rs) e in
     rw (cutBy, same-code c r one)
-    (elim (eqb (r .function) code) as (λ t. (if t then cutRow c n else cutBy cs code n) ≡ ((if t then fine r else rowOf rs code) >>= λ r. require (r .lengths takes n) 22 >> refuse 20))
-    [ true ↦ ap cutIf (same-takes c r n one) | false ↦ tables cs rs code n (second-of (sameRow c r) (agree cs rs) e) ])
+    (elim (eqb (r .function) code) as (λ t. (if t then cutRow at c n else cutBy at cs code n) ≡ (startingAt (at + 1) (if t then fine r else rowOf rs code) >>= λ r. requireAt at (r .lengths takes n) 22 >> refuse 20))
+    [ true ↦ ap (cutIf at) (same-takes c r n one) | false ↦ tables at cs rs code n (second-of (sameRow c r) (agree cs rs) e) ])
 
 -- looking for a row: those before k are of other types
-pub record Seeking (table : List TypeRow) (code n k : ℕ) : Type 0 where
+pub record Seeking (at : ℕ) (table : List TypeRow) (code n k : ℕ) : Type 0 where
   pub within : k ≤ 19
   pub many : length table ≡ 19
-  pub same : cutBy (drop k table) code n ≡ cutShort code n
+  pub same : cutBy at (drop k table) code n ≡ cutShort at code n
 
-pub seek : (table : List TypeRow) (code n : ℕ) → length table ≡ 19 → agree table types ≡ true → Seeking table code n 0
-seek table code n many e = record { within = omega arith; many = many; same = tables table types code n e }
+pub seek : (at : ℕ) (table : List TypeRow) (code n : ℕ) → length table ≡ 19 → agree table types ≡ true → Seeking at table code n 0
+seek at table code n many e = record { within = omega arith; many = many; same = tables at table types code n e }
 
-module _ {table : List TypeRow} {code n k : ℕ} (s : Seeking table code n k) where
+module _ {at : ℕ} {table : List TypeRow} {code n k : ℕ} (s : Seeking at table code n k) where
   here : (row : TypeRow) → k < 19 → drop k table ≡ getD table k row ∷ drop (suc k) table
   here row h = drop-cons table k row (omega (arith, s .many))
 
-  pub seek-found : (row : TypeRow) → k < 19 → getD table k row .0 ≡ code → cutRow (getD table k row) n ≡ cutShort code n
+  pub seek-found : (row : TypeRow) → k < 19 → getD table k row .0 ≡ code → cutRow at (getD table k row) n ≡ cutShort at code n
   unfolding cutBy
   seek-found row h e =
-      let one : cutBy (drop k table) code n ≡ cutRow (getD table k row) n = rw (here row h, cutBy, eq-eqb (getD table k row .0) code e) in
+      let one : cutBy at (drop k table) code n ≡ cutRow at (getD table k row) n = rw (here row h, cutBy, eq-eqb (getD table k row .0) code e) in
       sym one ∙ s .same
 
-  pub seek-on : (row : TypeRow) → k < 19 → (getD table k row .0 ≡ code → ⊥) → Seeking table code n (k + 1)
+  pub seek-on : (row : TypeRow) → k < 19 → (getD table k row .0 ≡ code → ⊥) → Seeking at table code n (k + 1)
   unfolding cutBy
   seek-on row h e =
-      let more : cutBy (drop k table) code n ≡ cutBy (drop (suc k) table) code n = rw (here row h, cutBy, ne-eqb (getD table k row .0) code e) in
+      let more : cutBy at (drop k table) code n ≡ cutBy at (drop (suc k) table) code n = rw (here row h, cutBy, ne-eqb (getD table k row .0) code e) in
       record { within = omega arith; many = s .many; same = rw add-one (sym more ∙ s .same) }
 
-  pub seek-none : 19 ≤ k → refuse 23 ≡ cutShort code n
+  pub seek-none : 19 ≤ k → fault 23 (at + 1) ≡ cutShort at code n
   unfolding cutBy
   seek-none h =
       let none = drop-of-length-le table {i = k} (omega (arith, s .many)) in
-      rw none at (s .same)
+      rw (none, add-zero (at + 1)) at (s .same)
 
 -- ---- a sequence whose LENGTH and TYPE are there
 
 -- a row and its LENGTH first, then the body, then the values: where the body is whole it need not be asked
-module _ (p : List ℕ) (g : Element → Checked Found) where
+module _ (at : ℕ) (p : List ℕ) (g : Element → Checked Found) where
   regrouped : (q : Checked Row) (t : Bool) (n m : ℕ) → t ≡ true → m ≡ n
-      → (q >>= λ r. require (r .lengths takes n) 22 >> (require t 20 >> (r .values p >>= g))) ≡ ((q >>= λ r. require (r .lengths takes m) 22 >> r .values p) >>= g)
-  regrouped (fault code at) t n m h e = refl
+      → (q >>= λ r. requireAt at (r .lengths takes n) 22 >> (require t 20 >> (startingAt (at + 2) (r .values p) >>= g))) ≡ ((q >>= λ r. requireAt at (r .lengths takes m) 22 >> startingAt (at + 2) (r .values p)) >>= g)
+  regrouped (fault code k) t n m h e = refl
   regrouped (fine r) t n m h e = rw (h, e) (go (r .lengths takes n))
     where
-      go : (u : Bool) → (require u 22 >> (r .values p >>= g)) ≡ ((require u 22 >> r .values p) >>= g)
+      go : (u : Bool) → (requireAt at u 22 >> (startingAt (at + 2) (r .values p) >>= g)) ≡ ((requireAt at u 22 >> startingAt (at + 2) (r .values p)) >>= g)
       go true = refl
       go false = refl
 
@@ -118,14 +120,14 @@ told zero x code at e = absurd (let z : _≡_ {A = ℕ} 0 1 = cc in omega arith)
 told (suc k) x code at e = (cc, omega arith)
 
 -- where the body is cut, what comes before that, or 20
-stops : (rest : Row → Checked Found) (q : Checked Row) (t : Bool) (n k : ℕ) (x : Found) → t ≡ false → verdict k (tt {0}) ≡ (q >>= λ r. require (r .lengths takes n) 22 >> refuse 20)
-    → (verdict k x ≡ (q >>= λ r. require (r .lengths takes n) 22 >> (require t 20 >> rest r))) × (0 < k)
-stops rest (fault code at) t n k x h e = told k x code at e
-stops rest (fine r) t n k x h e = rw h (go (r .lengths takes n) e)
+stops : (at : ℕ) (rest : Row → Checked Found) (q : Checked Row) (t : Bool) (n k : ℕ) (x : Found) → t ≡ false → verdict k (tt {0}) ≡ (q >>= λ r. requireAt at (r .lengths takes n) 22 >> refuse 20)
+    → (verdict k x ≡ (q >>= λ r. requireAt at (r .lengths takes n) 22 >> (require t 20 >> rest r))) × (0 < k)
+stops at rest (fault code j) t n k x h e = told k x code j e
+stops at rest (fine r) t n k x h e = rw h (go (r .lengths takes n) e)
   where
-    go : (u : Bool) → verdict k (tt {0}) ≡ (require u 22 >> refuse 20) → (verdict k x ≡ (require u 22 >> refuse 20)) × (0 < k)
+    go : (u : Bool) → verdict k (tt {0}) ≡ (requireAt at u 22 >> refuse 20) → (verdict k x ≡ (requireAt at u 22 >> refuse 20)) × (0 < k)
     go true s = told k x 20 0 s
-    go false s = told k x 22 0 s
+    go false s = told k x 22 at s
 
 module _ (at : ℕ) (bytes : List ℕ) (began : at + 2 ≤ length bytes) where
   abbrev n : ℕ
@@ -137,28 +139,24 @@ module _ (at : ℕ) (bytes : List ℕ) (began : at + 2 ≤ length bytes) where
   abbrev body : List ℕ
   body = between bytes (at + 2) (at + n)
 
-  pub too-short : n < 2 → sequence at bytes ≡ refuse 22
+  pub too-short : n < 2 → sequence at bytes ≡ fault 22 at
   unfolding sequence
   too-short h = rw (le-leb (at + 2) (length bytes) began, lt-leb 2 n h)
 
-  pub whole : 2 ≤ n → at + n ≤ length bytes → sequence at bytes ≡ (fitted (function type) body >>= λ e. found e (at + n) (chaining type))
+  pub whole : 2 ≤ n → at + n ≤ length bytes → sequence at bytes ≡ (fitted at (function type) body >>= λ e. found e (at + n) (chaining type))
   unfolding sequence
   whole long h =
       let size = length-take-le (at + n - (at + 2)) (drop (at + 2) bytes) (omega (arith, length-drop (at + 2) bytes)) in
       rw (le-leb (at + 2) (length bytes) began, le-leb 2 n long)
-      (regrouped body (λ e. found e (at + n) (chaining type)) (rowOf types (function type)) (leb (at + n) (length bytes)) n (2 + length body) (le-leb (at + n) (length bytes) h) (omega (arith, size)))
+      (regrouped at body (λ e. found e (at + n) (chaining type)) (startingAt (at + 1) (rowOf types (function type))) (leb (at + n) (length bytes)) n (2 + length body) (le-leb (at + n) (length bytes) h) (omega (arith, size)))
 
-  pub body-cut : 2 ≤ n → length bytes < at + n → (k : ℕ) (x : Found) → verdict k (tt {0}) ≡ cutShort (function type) n → (verdict k x ≡ sequence at bytes) × (0 < k)
+  pub body-cut : 2 ≤ n → length bytes < at + n → (k : ℕ) (x : Found) → verdict k (tt {0}) ≡ cutShort at (function type) n → (verdict k x ≡ sequence at bytes) × (0 < k)
   unfolding sequence
   body-cut long h k x e =
       rw (le-leb (at + 2) (length bytes) began, le-leb 2 n long)
-      (stops (λ r. r .values body >>= λ e. found e (at + n) (chaining type)) (rowOf types (function type)) (leb (at + n) (length bytes)) n k x (lt-leb (at + n) (length bytes) h) e)
+      (stops at (λ r. startingAt (at + 2) (r .values body) >>= λ e. found e (at + n) (chaining type)) (startingAt (at + 1) (rowOf types (function type))) (leb (at + n) (length bytes)) n k x (lt-leb (at + n) (length bytes) h) e)
 
 -- ---- parameters
-
--- no LENGTH is below the least
-least-taken : (ns : Lengths) (n : ℕ) → (ns takes n) ≡ true → ns .least ≤ n
-least-taken ns n e = leb-true _ _ (first-of _ _ (first-of _ _ e))
 
 -- a row whose LENGTHs begin with 4 has two bytes of parameters
 pub two-there : (row : TypeRow) (n : ℕ) → 4 ≤ row .1 .least → (lengthsIn row takes (2 + n)) ≡ true → 2 ≤ n

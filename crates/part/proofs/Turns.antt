@@ -3,7 +3,7 @@
 -- Assumes nothing.
 use Prim.Native.Nat.{ℕ, zero, suc, _+_, _-_, _/_, _%_, _<_, _≤_}
 use mathlib.Core.Path.{_≡_, refl, sym, _∙_, ap, subst}
-use mathlib.Core.Bool.{true}
+use mathlib.Core.Bool.{true, true≢false}
 use mathlib.Core.List.{List, [], _∷_, _++_, append-assoc, append-nil}
 use native.Mathlib.Nat.{sub-zero}
 use native.Mathlib.Omega.{arith}
@@ -18,14 +18,16 @@ use Rattle.part.specs.Records.{Item, allBytes}
 use Rattle.part.specs.Text.{cycle}
 use Rattle.part.specs.Place.{Effect, effect, place, placeText}
 use Rattle.part.specs.Part.{roomed, placed, passed, passedBy, elements, elementsBy}
-use Rattle.part.specs.Code.{verdict, fitted, stateOf, stateAfter, inked, performed, Ready, Completed, Ran}
+use Rattle.part.specs.Code.{verdict, nearer, fitted, stateOf, stateAfter, inked, performed, Ready, Completed, Ran}
 use Rattle.part.specs.declared.shapes.Descriptor.{Descriptor}
 use Rattle.part.specs.declared.shapes.State.{State}
 use Rattle.part.proofs.Bounds.{used-fits}
-use Rattle.part.proofs.Checks.{went-on, same-value, value-of}
+use Rattle.part.proofs.Checks.{OfCode, went-on, same-value, value-of, fault-of}
 use Rattle.part.proofs.Cutting.{cut-one, cut-fault, enough}
 use Rattle.part.proofs.Cycles.{once}
-use Rattle.part.proofs.Kept.{passed-kept}
+use Rattle.part.proofs.Fits.{Coded}
+use Rattle.part.proofs.Kept.{passed-kept, cut-leaves}
+use Rattle.part.proofs.Nearer.{performed-nearer}
 use Rattle.part.proofs.Parts.{allBytes-join, passed-leaves}
 use Rattle.part.proofs.Places.{chain-set}
 use Rattle.part.proofs.Reading.{reads-within}
@@ -33,7 +35,7 @@ use Rattle.part.proofs.Reading.{reads-within}
 -- ---- one element, and the rest
 
 module _ (widths : List ℕ) (d : Descriptor) where
-  stops : (k at chain : ℕ) (rest : List ℕ) (s : State) (code j : ℕ) → 0 < length rest → (element chain rest >>= passed widths d s) ≡ fault code j
+  pub stops : (k at chain : ℕ) (rest : List ℕ) (s : State) (code j : ℕ) → 0 < length rest → (element chain rest >>= passed widths d s) ≡ fault code j
       → elements widths d s (cutFrom (suc k) at chain rest) ≡ fault code (at + j)
   unfolding elementsBy
   stops k at chain rest s code j some h = go (element chain rest) refl h
@@ -42,7 +44,7 @@ module _ (widths : List ℕ) (d : Descriptor) where
       go (fine f) e q = rw (cut-one k at chain rest f some e, elements, q)
       go (fault c i) e q = rw (cut-fault k at chain rest c i some e, elements) (ap (startingAt at) q)
 
-  goes : (at : ℕ) (ps : List Piece) (s : State) (f : Found) (g : Effect) → passed widths d s f ≡ fine g
+  pub goes : (at : ℕ) (ps : List Piece) (s : State) (f : Found) (g : Effect) → passed widths d s f ≡ fine g
       → elements widths d s (piece at (fine f) ∷ ps) ≡ (elements widths d (g .state) ps >>= λ o. effect (o .state) (g .items ++ o .items))
   unfolding elementsBy
   goes at ps s f g q = rw (elements, q)
@@ -71,18 +73,23 @@ module _ (widths : List ℕ) (d : Descriptor) (s : State) (chain : ℕ) (rest : 
   unfolding passedBy
   run-step size e = record { reads = λ g h. (_, sym e, refl, refl); leads = rw (← e) refl }
 
-  pub sequence-step : (function size chains : ℕ) (p : List ℕ) → (fitted function p >>= λ e. found e size chains) ≡ element chain rest → Step widths d s chain rest size chains (performed widths d s function p)
+  fitted-step : (at function size chains : ℕ) (p : List ℕ) → (fitted at function p >>= λ e. found e size chains) ≡ element chain rest → Step widths d s chain rest size chains (fitted at function p >>= placed widths d s)
   unfolding passedBy
-  sequence-step function size chains p h = record { reads = reads; leads = rw (← h) (leads (fitted function p)) }
+  fitted-step at function size chains p h = record { reads = reads; leads = rw (← h) (leads (fitted at function p)) }
     where
-      reads : (g : Effect) → performed widths d s function p ≡ fine g → (f : Found) × (element chain rest ≡ fine f) × (f .size ≡ size) × (f .chains ≡ chains)
+      reads : (g : Effect) → (fitted at function p >>= placed widths d s) ≡ fine g → (f : Found) × (element chain rest ≡ fine f) × (f .size ≡ size) × (f .chains ≡ chains)
       reads g q =
-          let v = went-on (fitted function p) (placed widths d s) q in
+          let v = went-on (fitted at function p) (placed widths d s) q in
           (_, sym (rw (v .1) at h), refl, refl)
 
       leads : (m : Checked Element) → ((m >>= λ e. found e size chains) >>= passed widths d s) ≡ ((m >>= placed widths d s) >>= λ done. effect (withChain (done .state) chains) (done .items))
       leads (fine e) = refl
-      leads (fault code at) = refl
+      leads (fault code j) = refl
+
+  -- a sequence whose parameters begin at an offset, from how it is performed
+  pub sequence-step : (from function size chains : ℕ) (p : List ℕ) → 2 ≤ from → from ≤ 4 → (fitted (from - 2) function p >>= λ e. found e size chains) ≡ element chain rest
+      → Step widths d s chain rest size chains (nearer (4 - from) (performed widths d s function p))
+  sequence-step from function size chains p least most h = rw (performed-nearer widths d s function (4 - from) (from - 2) p (omega arith)) (fitted-step (from - 2) function size chains p h)
 
 -- a free run as the code hands it on: as many characters as it has
 pub text-placed : (widths : List ℕ) (d : Descriptor) (s : State) (t : List ℕ) (n : ℕ) → n ≡ length t → roomed s (placeText widths d s (cycle t 0 n)) ≡ placed widths d s (Text t)
@@ -146,6 +153,14 @@ module _ (widths : List ℕ) (d : Descriptor) (part w₀ area₀ area w : List �
       → elements widths d (stateOf w₀) (cut (getD w₀ 10 0) part) ≡ fault (n % 256) (at + n / 256)
   faulted size chains q zero t step k e = absurd (k refl)
   faulted size chains q (suc n) t step k e = stopped (suc n % 256) (suc n / 256) (step .leads ∙ rw (effect-fault (suc n % 256) (suc n / 256) q e))
+
+  -- the same, brought nearer
+  pub faulted-nearer : (by size chains : ℕ) (q : Checked Effect) (n r : ℕ) (t : State) → Step widths d (stateOf w) (getD w 10 0) (drop at part) size chains (nearer by q) → (n ≡ 0 → ⊥) → verdict n t ≡ stateAfter q
+      → (r % 256 ≡ n % 256) × (r / 256 ≡ n / 256 - by) → elements widths d (stateOf w₀) (cut (getD w₀ 10 0) part) ≡ fault (r % 256) (at + r / 256)
+  faulted-nearer by size chains q zero r t step k e near = absurd (k refl)
+  faulted-nearer by size chains q (suc n) r t step k e near =
+      let told : q ≡ fault (suc n % 256) (suc n / 256) = effect-fault (suc n % 256) (suc n / 256) q e in
+      stopped (r % 256) (r / 256) (step .leads ∙ rw (told, near .0, near .1))
 
   -- the elements from here on: one, and those behind it
   rest-next : (f : Found) → element (getD w 10 0) (drop at part) ≡ fine f
@@ -225,3 +240,8 @@ pub ran-stopped : (m : Checked Effect) (many used : ℕ) (before : List ℕ) (n 
     → Ran m many used before (record { fault = n; at = at; count = count }) s area → m ≡ fault (n % 256) (at + n / 256)
 ran-stopped m many used before zero at count s area k e = absurd (k refl)
 ran-stopped m many used before (suc n) at count s area k e = e
+
+-- a fault's code is none that a number 0 has
+pub not-nought : (widths : List ℕ) (d : Descriptor) (s : State) (chain : ℕ) (part : List ℕ) (r k : ℕ) → hold (descriptorFields d) ≡ true → elements widths d s (cut chain part) ≡ fault (r % 256) k → r ≡ 0 → ⊥
+not-nought widths d s chain part zero k dh e h = true≢false (sym (fault-of {Q = OfCode Coded} _ (cut-leaves widths d dh s chain part) e))
+not-nought widths d s chain part (suc r) k dh e h = absurd (let z : suc r ≡ 0 = h in omega arith)

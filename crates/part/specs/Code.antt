@@ -1,5 +1,5 @@
 -- How the code's numbers stand for the rule book's values: what the contracts inside this crate cite, and no rule.
-use Prim.Native.Nat.{ℕ, zero, suc, _+_, _/_, _%_, _<_, _≤_}
+use Prim.Native.Nat.{ℕ, zero, suc, _+_, _-_, _/_, _%_, _<_, _≤_}
 use mathlib.Core.Path.{_≡_}
 use mathlib.Core.Bool.{Bool, true, not, _&&_, _||_}
 use mathlib.Core.List.{List, [], _∷_, _++_}
@@ -9,7 +9,7 @@ use lib.ListN.{length, take, drop, getD}
 use lib.Seq.{sets}
 use lib.Dec.{ltb, leb, eqb}
 use Rattle.part.specs.Numbers.{if_then_else_, origin, ones, byte, word, little}
-use Rattle.part.specs.Checks.{Checked, fine, fault, refuse, require, _>>=_, _>>_}
+use Rattle.part.specs.Checks.{Checked, fine, fault, refuse, require, requireAt, startingAt, _>>=_, _>>_}
 use Rattle.part.specs.States.{point, state, withInline}
 use Rattle.part.specs.Ranges.{upTo, _∈_, hold, descriptorFields, stateFields}
 use Rattle.part.specs.Elements.{Element, Text, ruleWidth}
@@ -37,6 +37,12 @@ abbrev pub verdict : {A : Type 0} → ℕ → A → Checked A
 verdict zero a = fine a
 verdict (suc n) a = fault (suc n % 256) (suc n / 256)
 
+-- Behind 2B D3 a sequence's LENGTH stands at 2, in a chain at 0. What performs a sequence counts as behind 2B D3, and only then is it
+-- brought nearer by so many bytes; a fault at the element's start stays there.
+abbrev pub nearer : {A : Type 0} → ℕ → Checked A → Checked A
+nearer by (fine a) = fine a
+nearer by (fault code at) = fault code (at - by)
+
 -- ---- the table of types
 
 -- the LENGTHs of a row of the code's table
@@ -45,33 +51,33 @@ lengthsIn row = allBut (row .1 .least) (row .1 .greatest) (row .1 .«hole_from»
 
 -- the row takes the LENGTH of these parameters, with itself and TYPE two bytes more; and then something else
 abbrev pub sized : {A : Type 0} → TypeRow → List ℕ → Checked A → Checked A
-sized row p m = require (lengthsIn row takes (2 + length p)) 22 >> m
+sized row p m = requireAt 2 (lengthsIn row takes (2 + length p)) 22 >> m
 
--- a sequence whose body is whole: its row, its LENGTH, its values
-abbrev pub fitted : ℕ → List ℕ → Checked Element
-fitted code p = do
-  row ← rowOf types code
-  require (row .lengths takes (2 + length p)) 22
-  row .values p
+-- a sequence whose LENGTH stands at an offset and whose body is whole: its row, its LENGTH, its values
+abbrev pub fitted : ℕ → ℕ → List ℕ → Checked Element
+fitted at code p = do
+  row ← startingAt (at + 1) (rowOf types code)
+  requireAt at (row .lengths takes (2 + length p)) 22
+  startingAt (at + 2) (row .values p)
 
--- a sequence whose body is cut: what is refused before that
-abbrev pub cutShort : ℕ → ℕ → Checked Unit
-cutShort code n = do
-  row ← rowOf types code
-  require (row .lengths takes n) 22
+-- one whose body is cut: what is refused before that
+abbrev pub cutShort : ℕ → ℕ → ℕ → Checked Unit
+cutShort at code n = do
+  row ← startingAt (at + 1) (rowOf types code)
+  requireAt at (row .lengths takes n) 22
   refuse 20
 
 -- ---- the element reader
 
 abbrev pub foundBy : List ℕ → Read → Checked Found
 foundBy bytes (Run size) = found (Text (take size bytes)) size 0
-foundBy bytes (Sequence function from size chains) = fitted function (between bytes from size) >>= λ e. found e size chains
+foundBy bytes (Sequence function from size chains) = fitted (from - 2) function (between bytes from size) >>= λ e. found e size chains
 foundBy bytes (Refused n) = verdict n (record { element = Text []; size = 0; chains = 0 })
 
--- it ends within so many bytes, and has one at least
+-- it ends within so many bytes, and has one at least; parameters begin at 2 to 4
 abbrev pub Within : ℕ → Read → Type 0
 Within most (Run size) = (0 < size) × (size ≤ most)
-Within most (Sequence function from size chains) = (from ≤ size) × ((0 < size) × ((size ≤ most) × (chains ≤ 1)))
+Within most (Sequence function from size chains) = (from ≤ size) × ((0 < size) × ((size ≤ most) × ((chains ≤ 1) × ((2 ≤ from) × (from ≤ 4)))))
 Within most (Refused n) = 0 < n
 
 -- ---- the working state: I, B, margin, increment, adjustment, direction, font, colour, variable space, suppression, chain, bytes used
@@ -120,7 +126,8 @@ advanced s i cs = roomed s (effect (withInline s i) (shownText s cs ∷ []))
 -- DIR, DBR, from parameters to records
 abbrev pub ruled : Descriptor → State → ℕ → List ℕ → Checked Effect
 ruled d s mark p = do
-  require (word 0 p 0 ∈ upTo 0x7FFF && ruleWidth (word 0xFF p 2) (byte 0xFF p 4)) 24
+  requireAt 4 (word 0 p 0 ∈ upTo 0x7FFF) 24
+  requireAt 6 (ruleWidth (word 0xFF p 2) (byte 0xFF p 4)) 24
   roomed s (placeRule d s mark (word 0 p 0) (default ones (word 0xFF p 2) (d .rule)))
 
 -- ---- sequences
@@ -128,12 +135,12 @@ ruled d s mark p = do
 -- RPS, from parameters to records
 abbrev pub repeating : List ℕ → Descriptor → State → List ℕ → Checked Effect
 repeating widths d s p = do
-  require (word 0 p 0 ∈ upTo (if ltb 2 (length p) then 0x7FFF else 0)) 24
+  requireAt 4 (word 0 p 0 ∈ upTo (if ltb 2 (length p) then 0x7FFF else 0)) 24
   roomed s (placeText widths d s (cycle (drop 2 p) 0 (word 0 p 0)))
 
--- any sequence
+-- any sequence, behind 2B D3
 abbrev pub performed : List ℕ → Descriptor → State → ℕ → List ℕ → Checked Effect
-performed widths d s function p = fitted function p >>= placed widths d s
+performed widths d s function p = fitted 2 function p >>= placed widths d s
 
 -- ---- text: what does not change within an element is in a `Line`
 

@@ -11,6 +11,7 @@ pub mod Text
 pub mod Place
 pub mod Drawing
 pub mod Part
+pub mod Pointing
 pub mod Code
 pub mod Working
 pub mod Sheets

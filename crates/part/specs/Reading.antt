@@ -5,7 +5,7 @@ use mathlib.Core.List.{List, [], _∷_}
 use lib.ListN.{length, take, drop}
 use lib.Dec.{leb, eqb}
 use Rattle.part.specs.Numbers.{if_then_else_, byte}
-use Rattle.part.specs.Checks.{Checked, fine, fault, require, _>>=_, _>>_}
+use Rattle.part.specs.Checks.{Checked, fine, fault, require, requireAt, startingAt, _>>=_, _>>_}
 use Rattle.part.specs.Elements.{Element, Text}
 use Rattle.part.specs.Types.{function, chaining, types, rowOf, _takes_}
 
@@ -24,17 +24,18 @@ between bytes first past = take (past - first) (drop first bytes)
 
 -- The sequence whose LENGTH and TYPE stand at an offset. LENGTH counts itself, TYPE and the parameters.
 -- In order: introducer cut 20; LENGTH under 2 22; 23; LENGTH not the type's 22; body cut 20; its values.
+-- 20 keeps the element's start; 22 points at LENGTH, 23 at TYPE, a value's fault into the parameters behind them.
 unfoldable pub sequence : ℕ → List ℕ → Checked Found
 sequence at bytes =
     let n = byte 0 bytes at in
     let type = byte 0 bytes (at + 1) in
     do
       require (leb (at + 2) (length bytes)) 20
-      require (leb 2 n) 22
-      row ← rowOf types (function type)
-      require (row .lengths takes n) 22
+      requireAt at (leb 2 n) 22
+      row ← startingAt (at + 1) (rowOf types (function type))
+      requireAt at (row .lengths takes n) 22
       require (leb (at + n) (length bytes)) 20
-      e ← row .values (between bytes (at + 2) (at + n))
+      e ← startingAt (at + 2) (row .values (between bytes (at + 2) (at + n)))
       found e (at + n) (chaining type)
 
 -- A free run is a longest stretch of bytes without 2B: how many they are.
@@ -45,10 +46,10 @@ stretch (x ∷ xs) = if eqb x 0x2B then 0 else suc (stretch xs)
 abbrev pub freeRun : List ℕ → Checked Found
 freeRun bytes = found (Text (take (stretch bytes) bytes)) (stretch bytes) 0
 
--- A sequence behind 2B D3: 21 if a byte follows 2B and isn't D3 (where none follows, the introducer is cut).
+-- A sequence behind 2B D3: 21 if a byte follows 2B and isn't D3, at that byte (where none follows, the introducer is cut).
 abbrev pub introduced : List ℕ → Checked Found
 introduced bytes = do
-  require (eqb (byte 0xD3 bytes 1) 0xD3) 21
+  requireAt 1 (eqb (byte 0xD3 bytes 1) 0xD3) 21
   sequence 2 bytes
 
 -- A free run while no chain is open. Otherwise a sequence: LENGTH TYPE alone when the one before it had an odd TYPE.

@@ -89,11 +89,11 @@ sheets =
     done 0 0 0 0 0 []
     ∷ done 0x2BD302D8 1 0 0 240 []
     ∷ refused 0x2B 20 0
-    ∷ refused 0xC12BC1 21 1
-    ∷ refused 0x2BD301D8 22 0
-    ∷ refused 0x2BD30272 23 0
+    ∷ refused 0xC12BC1 21 2
+    ∷ refused 0x2BD301D8 22 2
+    ∷ refused 0x2BD30272 23 3
     ∷ refused 0x2BD304C67F 20 0
-    ∷ refused 0x2BD304C68000 24 0
+    ∷ refused 0x2BD304C68000 24 4
     ∷ done 0x2BD304C62F40C1 2 17 12240 0 (hex 0xC1)
     ∷ refused 0x2BD304C62F41C1 27 6
     ∷ done 0x2BD304DA2BD3 1 18 288 0 (hex 0x2BD3)
@@ -106,6 +106,11 @@ sheets =
     ∷ sheet 0 [] none (hex 0x2BD305EE0FF0C1) (gives 0 1 4096) 0 0 (replicate 0xFF0 0xC1)
     ∷ sheet 0 [] none (hex 0x2BD305EE0FF1C1) (gives 29 0 0) 0 0 []
     ∷ done 0x2BD304C702D004D201E0C1C2 3 18 1008 480 (hex 0xC1C2)
+    -- "Point at the byte": a second parameter, a font behind text, and a second parameter in a chain behind both, and in the next part's
+    ∷ refused 0x2BD305C2000A02 24 6
+    ∷ refused 0xC12BD303F004 25 5
+    ∷ refused 0xC1C22BD304C7006405C2000A02 24 12
+    ∷ sheet 144 (hex 0x2BD302D9) (gives 0 1 0) (hex 0x05C2000A02) (gives 24 4 0) 0 240 []
     ∷ []
 
 -- the characters of some items
@@ -252,9 +257,12 @@ lends widths area d s part code at = whole record {
 abbrev pub refuses : Descriptor → State → List ℕ → ℕ → ℕ → Trial
 refuses d s part code at = lends 1024 4096 d s part code at
 
--- parts that are refused at their first byte, all with one code
-abbrev pub faults : ℕ → List ℕ → List Trial
-faults code parts = map (λ part. fails start (hex part) code 0) parts
+-- parts whose first element is refused, all with one code and pointing at one byte; and the same where a chain is open
+abbrev pub faults : ℕ → ℕ → List ℕ → List Trial
+faults code at parts = map (λ part. fails start (hex part) code at) parts
+
+abbrev pub faultsInChain : ℕ → ℕ → List ℕ → List Trial
+faultsInChain code at parts = map (λ part. fails (stands (on 100 90) 80 70 6 0 1 0 50 0 1 160) (hex part) code at) parts
 
 -- one part that is refused at some places
 abbrev pub faultsAt : ℕ → ℕ → List Point → List Trial
@@ -270,30 +278,41 @@ ofDescriptor f inside beyond = map (λ n. described (f n) true) inside ++ map (�
 unfoldable pub further : List Trial
 further =
     -- an element cut; a class that is not D3
-    faults 20 (0x2B ∷ 0x2BD3 ∷ 0x2BD301 ∷ 0x2BD304C6 ∷ 0x2BD304C680 ∷ 0x2BD3FFDAC1 ∷ [])
-    ++ faults 21 (0x2BC1 ∷ 0x2B2B ∷ 0x2BD2 ∷ [])
+    faults 20 0 (0x2B ∷ 0x2BD3 ∷ 0x2BD301 ∷ 0x2BD304C6 ∷ 0x2BD304C680 ∷ 0x2BD3FFDAC1 ∷ [])
+    ++ faults 21 1 (0x2BC1 ∷ 0x2B2B ∷ 0x2BD2 ∷ [])
     -- LENGTH under 2 before the type, the type before its LENGTHs, those before the cut
-    ++ faults 22 (0x2BD30072 ∷ 0x2BD30172 ∷ 0x2BD301DA ∷ 0x2BD301F8 ∷ [])
-    ++ faults 23 (0x2BD30272 ∷ 0x2BD30472 ∷ 0x2BD30476 ∷ 0x2BD30478 ∷ 0x2BD30480 ∷ 0x2BD302FE ∷ 0x2BD304CA ∷ 0x2BD30200 ∷ [])
-    ++ faults 22 (0x2BD303C6 ∷ 0x2BD305C6 ∷ 0x2BD303D2 ∷ 0x2BD305D2 ∷ 0x2BD303C8 ∷ 0x2BD305C8 ∷ 0x2BD303D4 ∷ 0x2BD305D4 ∷ 0x2BD303D8 ∷ [])
-    ++ faults 22 (0x2BD303C0 ∷ 0x2BD305C0 ∷ 0x2BD303D0 ∷ 0x2BD305D0 ∷ 0x2BD303C2 ∷ 0x2BD306C2 ∷ 0x2BD303C4 ∷ 0x2BD305C4 ∷ [])
-    ++ faults 22 (0x2BD302F0 ∷ 0x2BD304F0 ∷ 0x2BD30374 ∷ 0x2BD30674 ∷ 0x2BD305F6 ∷ 0x2BD307F6 ∷ 0x2BD302F2 ∷ 0x2BD304F2 ∷ 0x2BD302F4 ∷ 0x2BD304F4 ∷ [])
-    ++ faults 22 (0x2BD303E4 ∷ 0x2BD305E40001 ∷ 0x2BD306E4 ∷ 0x2BD308E4 ∷ 0x2BD303E6 ∷ 0x2BD305E6 ∷ 0x2BD306E6 ∷ 0x2BD308E6 ∷ 0x2BD303EE ∷ [])
+    ++ faults 22 2 (0x2BD30072 ∷ 0x2BD30172 ∷ 0x2BD301DA ∷ 0x2BD301F8 ∷ [])
+    ++ faults 23 3 (0x2BD30272 ∷ 0x2BD30472 ∷ 0x2BD30476 ∷ 0x2BD30478 ∷ 0x2BD30480 ∷ 0x2BD302FE ∷ 0x2BD304CA ∷ 0x2BD30200 ∷ [])
+    ++ faults 22 2 (0x2BD303C6 ∷ 0x2BD305C6 ∷ 0x2BD303D2 ∷ 0x2BD305D2 ∷ 0x2BD303C8 ∷ 0x2BD305C8 ∷ 0x2BD303D4 ∷ 0x2BD305D4 ∷ 0x2BD303D8 ∷ [])
+    ++ faults 22 2 (0x2BD303C0 ∷ 0x2BD305C0 ∷ 0x2BD303D0 ∷ 0x2BD305D0 ∷ 0x2BD303C2 ∷ 0x2BD306C2 ∷ 0x2BD303C4 ∷ 0x2BD305C4 ∷ [])
+    ++ faults 22 2 (0x2BD302F0 ∷ 0x2BD304F0 ∷ 0x2BD30374 ∷ 0x2BD30674 ∷ 0x2BD305F6 ∷ 0x2BD307F6 ∷ 0x2BD302F2 ∷ 0x2BD304F2 ∷ 0x2BD302F4 ∷ 0x2BD304F4 ∷ [])
+    ++ faults 22 2 (0x2BD303E4 ∷ 0x2BD305E40001 ∷ 0x2BD306E4 ∷ 0x2BD308E4 ∷ 0x2BD303E6 ∷ 0x2BD305E6 ∷ 0x2BD306E6 ∷ 0x2BD308E6 ∷ 0x2BD303EE ∷ [])
     -- each parameter beyond its range
-    ++ faults 24 (0x2BD304C68000 ∷ 0x2BD304C6FFFF ∷ 0x2BD304D28000 ∷ 0x2BD304D2FFFF ∷ 0x2BD304C08000 ∷ 0x2BD304C0FFFE ∷ 0x2BD304D08000 ∷ 0x2BD304D0FFFE ∷ [])
-    ++ faults 24 (0x2BD304C21000 ∷ 0x2BD304C2FFFE ∷ 0x2BD305C2000002 ∷ 0x2BD305C20000FE ∷ 0x2BD304C41000 ∷ 0x2BD304C4FFFE ∷ [])
-    ++ faults 24 (0x2BD304740001 ∷ 0x2BD30474FEFF ∷ 0x2BD30474FF01 ∷ 0x2BD30474FF06 ∷ 0x2BD30474FF08 ∷ 0x2BD30474FFFE ∷ [])
-    ++ faults 24 (0x2BD306F600012D00 ∷ 0x2BD306F6FFFE2D00 ∷ 0x2BD306F600002CFF ∷ 0x2BD306F600002D01 ∷ 0x2BD306F60000FFFE ∷ [])
-    ++ faults 24 (0x2BD303F200 ∷ 0x2BD303F280 ∷ 0x2BD303F400 ∷ 0x2BD303F480 ∷ [])
-    ++ faults 24 (0x2BD304E48000 ∷ 0x2BD307E4000100C100 ∷ 0x2BD307E40001000001 ∷ 0x2BD307E4000100C0FF ∷ 0x2BD307E40001FFFF00 ∷ 0x2BD307E40001FFFEFF ∷ [])
-    ++ faults 24 (0x2BD304E68000 ∷ 0x2BD307E6000100C100 ∷ 0x2BD305EE8000C1 ∷ 0x2BD304EE0001 ∷ 0x2BD304EE8000 ∷ [])
-    ++ faults 25 (0x2BD303F004 ∷ 0x2BD303F0FE ∷ [])
+    ++ faults 24 4 (0x2BD304C68000 ∷ 0x2BD304C6FFFF ∷ 0x2BD304D28000 ∷ 0x2BD304D2FFFF ∷ 0x2BD304C08000 ∷ 0x2BD304C0FFFE ∷ 0x2BD304D08000 ∷ 0x2BD304D0FFFE ∷ [])
+    ++ faults 24 4 (0x2BD304C21000 ∷ 0x2BD304C2FFFE ∷ 0x2BD305C2100002 ∷ 0x2BD304C41000 ∷ 0x2BD304C4FFFE ∷ [])
+    ++ faults 24 6 (0x2BD305C2000002 ∷ 0x2BD305C20000FE ∷ [])
+    ++ faults 24 4 (0x2BD304740001 ∷ 0x2BD30474FEFF ∷ 0x2BD30474FF01 ∷ 0x2BD30474FF06 ∷ 0x2BD30474FF08 ∷ 0x2BD30474FFFE ∷ [])
+    ++ faults 24 4 (0x2BD306F600012D00 ∷ 0x2BD306F6FFFE2D00 ∷ 0x2BD306F600012D01 ∷ [])
+    ++ faults 24 6 (0x2BD306F600002CFF ∷ 0x2BD306F600002D01 ∷ 0x2BD306F60000FFFE ∷ [])
+    ++ faults 24 4 (0x2BD303F200 ∷ 0x2BD303F280 ∷ 0x2BD303F400 ∷ 0x2BD303F480 ∷ [])
+    ++ faults 24 4 (0x2BD304E48000 ∷ 0x2BD307E4800000C100 ∷ 0x2BD304E68000 ∷ 0x2BD307E6800000C100 ∷ 0x2BD305EE8000C1 ∷ 0x2BD304EE0001 ∷ 0x2BD304EE8000 ∷ [])
+    ++ faults 24 6 (0x2BD307E4000100C100 ∷ 0x2BD307E40001000001 ∷ 0x2BD307E4000100C0FF ∷ 0x2BD307E40001FFFF00 ∷ 0x2BD307E40001FFFEFF ∷ 0x2BD307E6000100C100 ∷ [])
+    ++ faults 25 4 (0x2BD303F004 ∷ 0x2BD303F0FE ∷ [])
+    -- in a chain all of it counts from LENGTH
+    ++ faultsInChain 20 0 (0x02 ∷ 0x04C680 ∷ [])
+    ++ faultsInChain 22 0 (0x01D8 ∷ 0x03C6 ∷ 0x03C6AA ∷ 0x2BD302D8 ∷ 0x2BC1 ∷ [])
+    ++ faultsInChain 23 1 (0x0272 ∷ 0x0472 ∷ [])
+    ++ faultsInChain 24 2 (0x04C68000 ∷ 0x05C2100002 ∷ 0x06F600012D01 ∷ 0x07E4800000C100 ∷ 0x04EE0001 ∷ 0x03F200 ∷ [])
+    ++ faultsInChain 24 4 (0x05C2000002 ∷ 0x06F600002D01 ∷ 0x07E40001000001 ∷ [])
+    ++ faultsInChain 25 2 (0x03F004 ∷ [])
+    ++ faultsInChain 26 0 (0x03F401 ∷ [])
+    ++ faultsInChain 27 0 (0x04E47FFF ∷ 0x05EE7FFFC1 ∷ [])
     -- beyond the sheet by one, on each side; and values that are in range, but not on it
     ++ faultsAt 27 0xC1 (on 4552 3000 ∷ on 4551 3001 ∷ keptAs 32767 32768 ∷ keptAs 32768 32767 ∷ [])
     ++ faultsAt 27 0x40 (on 4951 0 ∷ [])
     ++ faultsAt 27 0x2BD304E403E8 (on 4001 2940 ∷ on 4000 2941 ∷ keptAs 32767 32768 ∷ keptAs 32768 32767 ∷ [])
     ++ faultsAt 27 0x2BD304E603E8 (on 4941 2000 ∷ on 4940 2001 ∷ keptAs 32767 32768 ∷ keptAs 32768 32767 ∷ [])
-    ++ faults 27 (0x2BD304E47FFF ∷ 0x2BD304E67FFF ∷ 0x2BD305EE7FFFC1 ∷ [])
+    ++ faults 27 0 (0x2BD304E47FFF ∷ 0x2BD304E67FFF ∷ 0x2BD305EE7FFFC1 ∷ [])
     -- beyond the positions by one
     ++ faultsAt 28 0x2BD304C80001 (on 32767 0 ∷ [])
     ++ faultsAt 28 0x2BD304C8FFFF (keptAs 0 32768 ∷ [])
@@ -366,7 +385,6 @@ further =
     ∷ accepts job (stands (on 100 90) 80 70 6 0 1 0 50 0 1 160) (hex 0x02D8) 1 0 (halfway (on 80 160) 160) []
     ∷ accepts job start (hex 0x2BD302D9) 1 0 (stands (on 80 160) 80 70 6 0 1 0 50 0 1 160) []
     ∷ accepts job (stands (on 100 90) 80 70 6 0 1 0 50 0 1 160) [] 0 0 (stands (on 100 90) 80 70 6 0 1 0 50 0 1 160) []
-    ∷ fails (stands (on 100 90) 80 70 6 0 1 0 50 0 1 160) (hex 0x02) 20 0
     -- 27: a character, the variable space, DIR and DBR, at the edges and beyond each
     ∷ accepts job (halfway (on 0 0) 160) (hex 0xC1) 1 17 (halfway (on 455 0) 177) (hex 0x1100_0100_0000_0000_0100_0000_0600_3200_C1)
     ∷ accepts job (halfway (on 4551 3000) 160) (hex 0xC1) 1 17 (halfway (on 5006 3000) 177) (hex 0x1100_0100_C711_B80B_0100_0000_0600_3200_C1)
@@ -391,14 +409,17 @@ further =
     ∷ accepts job (stands (on 100 90) 80 70 6 0 1 0 50 7 0 4096) (hex 0xC1_2BD304E40014) 2 0 (stands (on 555 90) 80 70 6 0 1 0 50 7 0 4096) []
     ∷ fails (halfway (on 4941 2000) 4096) (hex 0x2BD304E603E8) 27 0
     ∷ refuses vast (halfway (on 32313 0) 4096) (hex 0xC1) 28 0
-    -- the first element at fault: its offset, and nothing of the others is kept
-    ∷ refuses job start (hex 0xC1_2BD304C68000) 24 1
-    ∷ fails start (hex 0x2BD302D9_02D9_04C78000_02) 24 6
+    -- the first element at fault: the byte counts from it, and nothing of the others is kept
+    ∷ refuses job start (hex 0xC1_2BD304C68000) 24 5
+    ∷ fails start (hex 0x2BD302D9_02D9_04C78000_02) 24 8
+    ∷ fails start (hex 0xC1C2_2BD304C70064_05C2000A02) 24 12
+    ∷ fails start (hex 0xC1_2BD302D9_0272) 23 6
+    ∷ fails (halfway (on 100 90) 4064) (hex 0x2BD304E50014_04E40014_04E40014) 29 10
     -- 26, and 24 before it
     ∷ fails start (hex 0x2BD303F301_03F201) 26 5
     ∷ fails start (hex 0x2BD303F301_03F202) 26 5
     ∷ fails start (hex 0x2BD303F301_03F402) 26 5
-    ∷ fails start (hex 0x2BD303F301_03F280) 24 5
+    ∷ fails start (hex 0x2BD303F301_03F280) 24 7
     ∷ fails start (hex 0x2BD303F401) 26 0
     -- what is lent: 10 before 12, 12 before 15, 15 before 19, 19 before the elements
     ∷ lends 1023 4096 job start [] 10 0
@@ -408,7 +429,7 @@ further =
     ∷ refuses (jobOf 0 3000 10 20 30 40 5 1 2 0xFF00 60 7) (halfway (on 100 90) 4097) [] 12 0
     ∷ refuses (jobOf 0 3000 10 20 30 40 5 1 2 0xFF00 60 7) start (replicate 8193 0x2B) 15 0
     ∷ refuses job start (replicate 8193 0x2B) 19 0
-    ∷ refuses job start (replicate 8192 0x2B) 21 0
+    ∷ refuses job start (replicate 8192 0x2B) 21 1
     ∷ []
 
 -- a row as the definitions have it

@@ -1,5 +1,6 @@
 // Interprets one part of presentation text. What other crates may use is public, and asks nothing of a caller.
 pub mod bools;
+mod faults;
 pub mod interpret;
 mod little;
 mod moves;

@@ -5,6 +5,7 @@ ghost use lib.ListN.{length};
 ghost use Rattle.part.specs.Presenting.{moved};
 ghost use Rattle.part.specs.Code.{verdict, reached};
 ghost use Rattle.part.specs.Working.{absolute, relative, line};
+use super::faults::WRONG_VALUE;
 use super::numbers::LAST;
 use super::numbers::ORIGIN;
 use super::presenting::Reached;
@@ -37,7 +38,7 @@ pub fn absolute_move(w: &mut [u32], axis: usize, p: &[u8]) -> u32
 {
     let v = word_of(p);
     if 0x7FFF < v {
-        return 24;
+        return WRONG_VALUE;
     }
     w[axis] = ORIGIN + v;
     0

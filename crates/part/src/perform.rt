@@ -7,6 +7,9 @@ ghost use Rattle.part.specs.Numbers.{if_then_else_};
 ghost use Rattle.part.specs.Ranges.{upTo, colours};
 ghost use Rattle.part.specs.Working.{absolute, relative, setting, fontSetting, adjusting, beginning, ending};
 ghost use Rattle.part.specs.Code.{verdict, sized, Does, ruled, repeating, performed, Ready};
+use super::faults::UNKNOWN_TYPE;
+use super::faults::WRONG_LENGTH;
+use super::faults::WRONG_VALUE;
 use super::moves::absolute_move;
 use super::moves::begin_line;
 use super::moves::relative_move;
@@ -55,7 +58,7 @@ fn try_absolute(row: TypeRow, p: &[u8], w: &mut [u32], axis: usize) -> u32
     ensures { λ r. ⌜ verdict r (now (w .exit)) ≡ sized row (now (p .entry)) (absolute (now (w .entry)) axis (now (p .entry))) ⌝ }
 {
     if !suits(row, p) {
-        return 22;
+        return WRONG_LENGTH;
     }
     absolute_move(w, axis, p)
 }
@@ -66,7 +69,7 @@ fn try_relative(row: TypeRow, p: &[u8], w: &mut [u32], axis: usize) -> u32
     ensures { λ r. ⌜ verdict r (now (w .exit)) ≡ sized row (now (p .entry)) (relative (now (w .entry)) axis (now (p .entry))) ⌝ }
 {
     if !suits(row, p) {
-        return 22;
+        return WRONG_LENGTH;
     }
     relative_move(w, axis, p)
 }
@@ -77,7 +80,7 @@ fn try_number(row: TypeRow, p: &[u8], w: &mut [u32], at: usize, most: u32, other
     ensures { λ r. ⌜ verdict r (now (w .exit)) ≡ sized row (now (p .entry)) (setting (now (w .entry)) at (now (p .entry)) (upTo most) other) ⌝ }
 {
     if !suits(row, p) {
-        return 22;
+        return WRONG_LENGTH;
     }
     set_number(w, at, p, most, other)
 }
@@ -88,7 +91,7 @@ fn try_color(row: TypeRow, p: &[u8], w: &mut [u32], other: u32) -> u32
     ensures { λ r. ⌜ verdict r (now (w .exit)) ≡ sized row (now (p .entry)) (setting (now (w .entry)) 7 (now (p .entry)) colours other) ⌝ }
 {
     if !suits(row, p) {
-        return 22;
+        return WRONG_LENGTH;
     }
     set_color(w, p, other)
 }
@@ -99,7 +102,7 @@ fn try_adjustment(row: TypeRow, p: &[u8], w: &mut [u32], amount: u32, direction:
     ensures { λ r. ⌜ verdict r (now (w .exit)) ≡ sized row (now (p .entry)) (adjusting (now (w .entry)) (now (p .entry)) amount direction) ⌝ }
 {
     if !suits(row, p) {
-        return 22;
+        return WRONG_LENGTH;
     }
     set_adjustment(w, p, amount, direction)
 }
@@ -110,7 +113,7 @@ fn try_font(row: TypeRow, p: &[u8], w: &mut [u32], other: u32) -> u32
     ensures { λ r. ⌜ verdict r (now (w .exit)) ≡ sized row (now (p .entry)) (fontSetting (now (w .entry)) (now (p .entry)) other) ⌝ }
 {
     if !suits(row, p) {
-        return 22;
+        return WRONG_LENGTH;
     }
     set_font(w, p, other)
 }
@@ -121,7 +124,7 @@ fn try_begin(row: TypeRow, p: &[u8], w: &mut [u32]) -> u32
     ensures { λ r. ⌜ verdict r (now (w .exit)) ≡ sized row (now (p .entry)) (beginning (now (w .entry)) (now (p .entry))) ⌝ }
 {
     if !suits(row, p) {
-        return 22;
+        return WRONG_LENGTH;
     }
     begin_suppression(w, p)
 }
@@ -132,7 +135,7 @@ fn try_end(row: TypeRow, p: &[u8], w: &mut [u32]) -> u32
     ensures { λ r. ⌜ verdict r (now (w .exit)) ≡ sized row (now (p .entry)) (ending (now (w .entry)) (now (p .entry))) ⌝ }
 {
     if !suits(row, p) {
-        return 22;
+        return WRONG_LENGTH;
     }
     end_suppression(w, p)
 }
@@ -143,12 +146,12 @@ fn try_rule(row: TypeRow, mark: u32, p: &[u8], area: &mut [u8], d: Descriptor, w
     ensures { λ r. ⌜ Does (λ s. sized row (now (p .entry)) (ruled d s mark (now (p .entry)))) r w area ⌝ }
 {
     if !suits(row, p) {
-        return 22;
+        return WRONG_LENGTH;
     }
     draw_rule(mark, p, area, d, w)
 }
 
-// RPS: a count, then the text that begins again at its end.
+// RPS: a count, then the text that begins again at its end. Without text it is the count that is wrong.
 fn repeat_string(
     row: TypeRow,
     p: &[u8],
@@ -161,17 +164,17 @@ fn repeat_string(
     ensures { λ r. ⌜ Does (λ s. sized row (now (p .entry)) (repeating (now (widths .entry)) d s (now (p .entry)))) r w area ⌝ }
 {
     if !suits(row, p) {
-        return 22;
+        return WRONG_LENGTH;
     }
     let count = word_at(p, 0, 0);
     if count == 0 {
         return 0;
     }
     if p.len() <= 2 {
-        return 24;
+        return WRONG_VALUE;
     }
     if 0x7FFF < count {
-        return 24;
+        return WRONG_VALUE;
     }
     show_text(&p[2..], wide(count), widths, area, d, w)
 }
@@ -200,14 +203,22 @@ pub fn perform(
         0xD2 => try_absolute(AMB, p, w, B),
         0xC8 => try_relative(RMI, p, w, I),
         0xD4 => try_relative(RMB, p, w, B),
-        0xD8 => if suits(BLN, p) { begin_line(w) } else { 22 },
+        0xD8 => if suits(BLN, p) {
+            begin_line(w)
+        } else {
+            WRONG_LENGTH
+        },
         0xC0 => try_number(SIM, p, w, MARGIN, 0x7FFF, d.margin),
         0xD0 => try_number(SBI, p, w, INCREMENT, 0x7FFF, d.increment),
         0xC2 => try_adjustment(SIA, p, w, d.adjustment, d.direction),
         0xC4 => try_number(SVI, p, w, SPACE, 0xFFF, ONES),
         0xF0 => try_font(SCFL, p, w, d.font),
         0x74 => try_color(STC, p, w, d.colour),
-        0xF6 => if suits(STO, p) { orientation(p) } else { 22 },
+        0xF6 => if suits(STO, p) {
+            orientation(p)
+        } else {
+            WRONG_LENGTH
+        },
         0xF2 => try_begin(BSU, p, w),
         0xF4 => try_end(ESU, p, w),
         0xE4 | 0xE6 => try_rule(DIR, mark_of(function), p, area, d, w),
@@ -215,10 +226,10 @@ pub fn perform(
         0xDA => if suits(TRN, p) {
             show_text(p, p.len(), widths, area, d, w)
         } else {
-            22
+            WRONG_LENGTH
         },
         0xEE => repeat_string(RPS, p, widths, area, d, w),
-        0xF8 => if suits(NOP, p) { 0 } else { 22 },
-        _ => 23,
+        0xF8 => if suits(NOP, p) { 0 } else { WRONG_LENGTH },
+        _ => UNKNOWN_TYPE,
     }
 }

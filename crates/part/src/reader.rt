@@ -5,6 +5,7 @@ ghost use Prim.Native.Nat.{_+_, _≤_, _<_};
 ghost use lib.ListN.{length, drop};
 ghost use Rattle.part.specs.Reading.{stretch, sequence, element};
 ghost use Rattle.part.specs.Code.{foundBy, Within};
+use super::faults::NO_CLASS;
 use super::types::misfit;
 use super::types::split;
 
@@ -79,12 +80,12 @@ fn read_sequence(bytes: &[u8], at: usize) -> Read
     }
     let n = bytes[at] as usize;
     if n < 2 {
-        return Read::Refused(22);
+        return Read::Refused(22 + 256 * at as u16);
     }
     let kind = split(bytes[at + 1]);
     let size = at + n;
     if bytes.len() < size {
-        return Read::Refused(misfit(kind.function, n));
+        return Read::Refused(misfit(kind.function, n, at as u16));
     }
     let chains = kind.chains as u32;
     Read::Sequence {
@@ -108,7 +109,7 @@ pub fn read_element(bytes: &[u8], chain: u32) -> Read
     }
     if 1 < bytes.len() {
         if bytes[1] != 0xD3 {
-            return Read::Refused(21);
+            return Read::Refused(NO_CLASS);
         }
     }
     read_sequence(bytes, 2)

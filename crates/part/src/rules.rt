@@ -11,6 +11,8 @@ ghost use Rattle.part.specs.Place.{along, shownRule};
 ghost use Rattle.part.specs.Code.{Does, recorded, ruled};
 use super::bools::both;
 use super::bools::either;
+use super::faults::WRONG_VALUE;
+use super::faults::WRONG_WIDTH;
 use super::numbers::ONES;
 use super::numbers::wide;
 use super::presenting::is_hidden;
@@ -88,7 +90,10 @@ pub fn draw_rule(mark: u32, p: &[u8], area: &mut [u8], d: Descriptor, w: &mut [u
     let given = word_at(p, 2, 0xFF);
     let fraction = byte_at(p, 4, 0xFF);
     if !rule_values(len, given, fraction) {
-        return 24;
+        if 0x7FFF < len {
+            return WRONG_VALUE;
+        }
+        return WRONG_WIDTH;
     }
     let width = or_default(ONES, given, d.rule);
     if is_hidden(w[SUPPRESSION], d.hidden) {

@@ -1,7 +1,7 @@
 // The elements of a part one after the other, into a working state and an area that may be left half changed.
 ghost use mathlib.Core.Path.{_≡_};
 ghost use mathlib.Core.Bool.{true};
-ghost use Prim.Native.Nat.{_≤_, _<_};
+ghost use Prim.Native.Nat.{_-_, _/_, _%_, _≤_, _<_};
 ghost use lib.ListN.{length, getD};
 ghost use Rattle.part.specs.Ranges.{hold, descriptorFields};
 ghost use Rattle.part.specs.Reading.{cut};
@@ -14,11 +14,23 @@ use super::shapes::Descriptor;
 use super::show::show_text;
 use super::working::CHAIN;
 
-// How a run ended: the refusal, or 0; the offset of the element at fault; how many elements were passed.
+// How a run ended: the refusal, or 0, counted from its element; the offset of the element at fault; how many elements were passed.
 pub struct Outcome {
     pub fault: u32,
     pub at: usize,
     pub count: usize,
+}
+
+// The refusal of a sequence, which counts as behind the prefix: where parameters begin at 2, in a chain, two bytes nearer. The element's start stays.
+fn nearer(fault: u32, from: usize) -> u32
+    requires { ⌜ (2 ≤ from) × (from ≤ 4) ⌝ }
+    ensures { λ r. ⌜ (r % 256 ≡ fault % 256) × (r / 256 ≡ fault / 256 - (4 - from)) ⌝ }
+{
+    let by = 256 * (4 - from) as u32;
+    if fault < by {
+        return fault % 256;
+    }
+    fault - by
 }
 
 pub fn run(part: &[u8], widths: &[u16], area: &mut [u8], d: Descriptor, w: &mut [u32]) -> Outcome
@@ -51,8 +63,9 @@ pub fn run(part: &[u8], widths: &[u16], area: &mut [u8], d: Descriptor, w: &mut 
                 size,
                 chains,
             } => {
-                let fault = perform(function, &rest[from..size], widths, area, d, w);
-                if fault != 0 {
+                let told = perform(function, &rest[from..size], widths, area, d, w);
+                if told != 0 {
+                    let fault = nearer(told, from);
                     return Outcome { fault, at, count };
                 }
                 w[CHAIN] = chains;

@@ -7,6 +7,10 @@ ghost use Rattle.part.specs.Code.{verdict};
 ghost use Rattle.part.specs.Working.{setting, fontSetting, adjusting, oriented, beginning, ending};
 use super::bools::both;
 use super::bools::either;
+use super::faults::WRONG_AXIS;
+use super::faults::WRONG_DIRECTION;
+use super::faults::WRONG_FONT;
+use super::faults::WRONG_VALUE;
 use super::numbers::ONES;
 use super::ranges::is_colour;
 use super::values::byte_at;
@@ -29,7 +33,7 @@ pub fn set_number(w: &mut [u32], at: usize, p: &[u8], most: u32, other: u32) -> 
         w[at] = or_default(ONES, v, other);
         return 0;
     }
-    24
+    WRONG_VALUE
 }
 
 // STC.
@@ -42,7 +46,7 @@ pub fn set_color(w: &mut [u32], p: &[u8], other: u32) -> u32
         w[COLOUR] = or_default(ONES, v, other);
         return 0;
     }
-    24
+    WRONG_VALUE
 }
 
 // SCFL.
@@ -55,7 +59,7 @@ pub fn set_font(w: &mut [u32], p: &[u8], other: u32) -> u32
         w[FONT] = or_default(0xFF, f, other);
         return 0;
     }
-    25
+    WRONG_FONT
 }
 
 // SIA: amount and direction default each alone.
@@ -65,12 +69,13 @@ pub fn set_adjustment(w: &mut [u32], p: &[u8], amount: u32, direction: u32) -> u
 {
     let v = word_at(p, 0, 0);
     let to = byte_at(p, 2, 0);
-    if both(either(v <= 0xFFF, v == ONES), either(to <= 1, to == 0xFF)) {
+    let suits = either(v <= 0xFFF, v == ONES);
+    if both(suits, either(to <= 1, to == 0xFF)) {
         w[ADJUSTMENT] = or_default(ONES, v, amount);
         w[DIRECTION] = or_default(0xFF, to, direction);
         return 0;
     }
-    24
+    if suits { WRONG_DIRECTION } else { WRONG_VALUE }
 }
 
 // STO has no effect: its one orientation is taken.
@@ -79,10 +84,11 @@ pub fn orientation(p: &[u8]) -> u32
 {
     let i = word_at(p, 0, 0);
     let b = word_at(p, 2, 0);
-    if both(either(i == 0, i == ONES), either(b == 0x2D00, b == ONES)) {
+    let suits = either(i == 0, i == ONES);
+    if both(suits, either(b == 0x2D00, b == ONES)) {
         return 0;
     }
-    24
+    if suits { WRONG_AXIS } else { WRONG_VALUE }
 }
 
 // BSU: while one is open, 26.
@@ -98,7 +104,7 @@ pub fn begin_suppression(w: &mut [u32], p: &[u8]) -> u32
         }
         return 26;
     }
-    24
+    WRONG_VALUE
 }
 
 // ESU: of another than the open one, 26.
@@ -114,5 +120,5 @@ pub fn end_suppression(w: &mut [u32], p: &[u8]) -> u32
         }
         return 26;
     }
-    24
+    WRONG_VALUE
 }

@@ -1,6 +1,6 @@
 // The table of types: for each TYPE the LENGTHs that it takes.
 ghost use mathlib.Core.Path.{_≡_};
-ghost use Prim.Native.Nat.{_+_};
+ghost use Prim.Native.Nat.{_+_, _≤_};
 ghost use lib.ListN.{length};
 ghost use Rattle.part.specs.Ranges.{_to_, _∈_};
 ghost use Rattle.part.specs.Types.{function, chaining, _takes_};
@@ -173,9 +173,10 @@ pub fn suits(row: TypeRow, p: &[u8]) -> bool
     takes(row, 2 + p.len())
 }
 
-// Why a sequence with a cut body is refused: 23, 22, or else 20.
-pub fn misfit(function: u8, n: usize) -> u16
-    ensures { λ r. ⌜ verdict r tt ≡ cutShort function n ⌝ }
+// Why a sequence with a cut body is refused, its LENGTH standing at `at`: 23, 22, or else 20.
+pub fn misfit(function: u8, n: usize, at: u16) -> u16
+    requires { ⌜ at ≤ 2 ⌝ }
+    ensures { λ r. ⌜ verdict r tt ≡ cutShort at function n ⌝ }
 {
     let types = TYPES;
     let mut k: usize = 0;
@@ -185,9 +186,9 @@ pub fn misfit(function: u8, n: usize) -> u16
             if takes(row, n) {
                 return 20;
             }
-            return 22;
+            return 22 + 256 * at;
         }
         k += 1;
     }
-    23
+    23 + 256 * (at + 1)
 }

@@ -1,4 +1,4 @@
-// Document 01's "Sheets to try": each row is run, and its line is printed with the answer that came.
+// Document 01's "Sheets to try", and rows that point at a byte: each is run, and its line is printed with the answer that came.
 mod hex;
 mod row;
 mod show;
@@ -35,10 +35,19 @@ fn other_rows() {
     two_parts(b"2BD302D9", b"2BD302D8", Beside::Nothing);
 }
 
+// The byte that a refusal points at: in a second parameter, behind text, in a chain behind both, in a chain from the part before.
+fn pointed_rows() {
+    sheet(b"", b"2BD305C2000A02", Beside::Nothing);
+    sheet(b"", b"C12BD303F004", Beside::Nothing);
+    sheet(b"", b"C1C22BD304C7006405C2000A02", Beside::Nothing);
+    two_parts(b"2BD302D9", b"05C2000A02", Beside::Nothing);
+}
+
 fn main() {
     say(b"| Part | Answer |\n|---|---|\n");
     proved_rows();
     other_rows();
+    pointed_rows();
     say(b"\n");
     no_widths(b"2BD305EE0FF0C1", b"2BD305EE0FF1C1");
 }

@@ -4,11 +4,12 @@ use borrow.Author.Needs.{needs}
 use borrow.Author.Tests.{lt-leb}
 use denote.Ref.{now}
 use lib.ListN.{length}
-use mathlib.Core.Path.{refl}
+use mathlib.Core.Path.{_≡_, refl}
 use native.Mathlib.Omega.{arith}
-use Prim.Native.Nat.{_+_}
+use Prim.Native.Nat.{_+_, _-_}
 use Rattle.part.specs.Reading.{sequence}
 use Rattle.part.proofs.Rows.{too-short, whole, body-cut}
+use Rattle.part.proofs.Verdicts.{pointing}
 use Rattle.part.proofs.reader.read_sequence.Statement.{statement}
 use Rattle.part.proofs.reader.read_sequence.Tie as tie
 
@@ -27,10 +28,19 @@ shared-slice-read-n c = search needs
 cast-n : tie.Need-cast-n
 cast-n c = omega (arith, c .shared-slice-known2 .given (c .before .before .before .args .at))
 
+cast-t12 : tie.Need-cast-t12
+cast-t12 c = search needs
+
+mul-t13 : tie.Need-mul-t13
+mul-t13 c = search needs
+
+add-t14 : tie.Need-add-t14
+add-t14 c = search needs
+
 returns-2 : tie.Need-returns-2
 returns-2 c =
     let a = c .before .before .before .before .args in
-    rw (too-short (a .at) (now (a .bytes)) (c .before .before .if1 .left) (c .if2 .taken)) (refl, search needs)
+    rw (too-short (a .at) (now (a .bytes)) (c .before .before .if1 .left) (c .if2 .taken)) (pointing _ 22 (a .at) _ refl (omega arith) (omega arith), omega arith)
 
 add-split : tie.Need-add-split
 add-split c = search needs
@@ -45,6 +55,9 @@ add-size : tie.Need-add-size
 add-size c =
     let s = c .before .before .before in
     omega (arith, s .shared-slice-known2 .given (s .before .before .before .args .at))
+
+cast-misfit : tie.Need-cast-misfit
+cast-misfit c = search needs
 
 misfit-requires : tie.Need-misfit-requires
 misfit-requires c κs = search needs
@@ -61,7 +74,8 @@ returns-4 : tie.Need-returns-4
 returns-4 c =
     let a = c .before .before .before .before .before .before .before .before .args in
     let long = c .before .before .before .before .if2 .left in
-    rw (whole (a .at) (now (a .bytes)) (c .before .before .before .before .before .before .if1 .left) long (c .before .if3 .left), c .before .before .split .ensures) (refl, (search (needs, long), (search (needs, long), (search needs, search needs))))
+    let at : a .at + 2 - 2 ≡ a .at = omega arith in
+    rw (at, whole (a .at) (now (a .bytes)) (c .before .before .before .before .before .before .if1 .left) long (c .before .if3 .left), c .before .before .split .ensures) (refl, (search (needs, long), (search (needs, long), (search needs, (search needs, (omega arith, search needs))))))
 
 pub read-sequence-spec : {M : Type 1} → statement M
 read-sequence-spec =
@@ -71,11 +85,15 @@ read-sequence-spec =
     returns
     shared-slice-read-n
     cast-n
+    cast-t12
+    mul-t13
+    add-t14
     returns-2
     add-split
     shared-slice-read-split
     split-requires
     add-size
+    cast-misfit
     misfit-requires
     returns-3
     cast-chains

@@ -2,8 +2,9 @@
 -- Assumes nothing.
 use Prim.Native.Nat.{_-_}
 use Rattle.part.proofs.Bytes.{tail-of}
-use Rattle.part.proofs.Turns.{Here, start, refused, faulted, turn, ended, ran-fault, run-step, sequence-step, text-placed}
-use Rattle.part.specs.Code.{stateOf, stateAfter, inked, performed}
+use Rattle.part.proofs.Nearer.{done-nearer, inked-nearer}
+use Rattle.part.proofs.Turns.{Here, start, refused, faulted, faulted-nearer, turn, ended, ran-fault, not-nought, run-step, sequence-step, text-placed}
+use Rattle.part.specs.Code.{nearer, stateOf, stateAfter, inked, performed}
 use Rattle.part.specs.Elements.{Text}
 use Rattle.part.specs.Part.{placed}
 use Rattle.part.specs.Reading.{between}
@@ -332,10 +333,16 @@ same-length-5 c = search needs
 same-length-6 : tie.Need-same-length-6 Inv-loop μ-loop
 same-length-6 c = search needs
 
+nearer-requires : tie.Need-nearer-requires Inv-loop μ-loop
+nearer-requires c κs =
+    let found = c .before .before .before .before .before .before .before .before .before .before .found3 .given .1 in
+    let inside = rw found at (c .before .before .before .before .before .before .before .before .before .before .before .before .read-element .ensures .1) in
+    inside .1 .1 .1 .1
+
 returns-3 : tie.Need-returns-3 Inv-loop μ-loop
 returns-3 c =
-    let l = c .before .before .before .before .before .before .before .before .before .before .before .before .before .before .before .before in
-    let st = c .before .before .before .before .before .before .before .before .before .before .before .before .before .before .before .before .before .before .before .before .before in
+    let l = c .before .before .before .before .before .before .before .before .before .before .before .before .before .before .before .before .before in
+    let st = c .before .before .before .before .before .before .before .before .before .before .before .before .before .before .before .before .before .before .before .before .before .before in
     let a = st .args in
     let part = now (a .part) in
     let w = l .loop .w in
@@ -343,16 +350,18 @@ returns-3 c =
     let here = l .loop .inv in
     let rest = take (length part - at) (drop at part) in
     let tail = tail-of part at in
-    let found = c .before .before .before .before .before .before .before .before .before .before .found3 .given .1 in
-    let read = rw found at (c .before .before .before .before .before .before .before .before .before .before .before .before .read-element .ensures .0) in
-    let inside = rw found at (c .before .before .before .before .before .before .before .before .before .before .before .before .read-element .ensures .1) in
+    let found = c .before .before .before .before .before .before .before .before .before .before .before .found3 .given .1 in
+    let read = rw found at (c .before .before .before .before .before .before .before .before .before .before .before .before .before .read-element .ensures .0) in
+    let inside = rw found at (c .before .before .before .before .before .before .before .before .before .before .before .before .before .read-element .ensures .1) in
     let z : length rest ≡ length part - at = ap length tail ∙ length-drop at part in
-    let x = c .before .before .before .before .before .before .before .before .before .before .found3 .given .0 in
+    let x = c .before .before .before .before .before .before .before .before .before .before .before .found3 .given .0 in
     let p = between (drop at part) (x .1 .0) (x .1 .1 .0) in
     let s = stateOf w in
-    let step = sequence-step (now (a .widths)) (a .d) s (getD w 10 0) (drop at part) (x .0) (x .1 .1 .0) (x .1 .1 .1 .0) p (rw tail at read) in
-    let done = rw tail at (c .before .before .before .before .before .perform .ensures) in
-    (ran-fault _ _ _ _ _ at (l .loop .count) _ _ (c .if2 .taken) (faulted (now (a .widths)) (a .d) part (now (a .w)) (now (a .area)) (l .loop .area) w at (l .loop .count) here (c .before .before .before .before .before .before .before .before .before .before .before .before .before .before .before .loop-test .taken) _ _ _ _ _ step (c .if2 .taken) (done .0)), (omega (arith, here .within, st .pre .1 .1), omega (arith, here .within, here .fewer, st .pre .1 .1)))
+    let begins = inside .1 .1 .1 .1 in
+    let step = sequence-step (now (a .widths)) (a .d) s (getD w 10 0) (drop at part) (x .1 .0) (x .0) (x .1 .1 .0) (x .1 .1 .1 .0) p (begins .0) (begins .1) (rw tail at read) in
+    let done = rw tail at (c .before .before .before .before .before .before .perform .ensures) in
+    let stop = faulted-nearer (now (a .widths)) (a .d) part (now (a .w)) (now (a .area)) (l .loop .area) w at (l .loop .count) here (c .before .before .before .before .before .before .before .before .before .before .before .before .before .before .before .before .loop-test .taken) (4 - x .1 .0) (x .1 .1 .0) (x .1 .1 .1 .0) (performed (now (a .widths)) (a .d) s (x .0) p) _ _ _ step (c .before .if2 .taken) (done .0) (c .nearer .ensures) in
+    (ran-fault _ _ _ _ _ at (l .loop .count) _ _ (not-nought (now (a .widths)) (a .d) (stateOf (now (a .w))) (getD (now (a .w)) 10 0) part _ _ (st .pre .1 .0) stop) stop, (omega (arith, here .within, st .pre .1 .1), omega (arith, here .within, here .fewer, st .pre .1 .1)))
 
 slice-write-w-2 : tie.Need-slice-write-w-2 Inv-loop μ-loop
 slice-write-w-2 c = search needs
@@ -426,9 +435,12 @@ loop-again-2 c =
     let x = c .before .before .before .before .before .before .before .before .before .before .found3 .given .0 in
     let p = between (drop at part) (x .1 .0) (x .1 .1 .0) in
     let s = stateOf w in
-    let step = sequence-step (now (a .widths)) (a .d) s (getD w 10 0) (drop at part) (x .0) (x .1 .1 .0) (x .1 .1 .1 .0) p (rw tail at read) in
+    let begins = inside .1 .1 .1 .1 in
+    let by = 4 - x .1 .0 in
+    let q = performed (now (a .widths)) (a .d) s (x .0) p in
+    let step = sequence-step (now (a .widths)) (a .d) s (getD w 10 0) (drop at part) (x .1 .0) (x .0) (x .1 .1 .0) (x .1 .1 .1 .0) p (begins .0) (begins .1) (rw tail at read) in
     let done = rw tail at (c .before .before .before .before .before .perform .ensures) in
-    turn (now (a .widths)) (a .d) part (now (a .w)) (now (a .area)) (l .loop .area) w at (l .loop .count) here (c .before .before .before .before .before .before .before .before .before .before .before .before .before .before .before .loop-test .taken) (x .1 .1 .0) (x .1 .1 .1 .0) (performed (now (a .widths)) (a .d) s (x .0) p) (c .before .before .before .before .before .perform .last .1 .1 .1 .1 .1 .0) (c .before .before .before .before .before .perform .last .1 .1 .1 .0) step (st .pre .1 .0) (omega (arith, here .ready .twelve)) (omega (arith, here .ready .whole)) (rw (c .if2 .left) at (done .0)) (done .1)
+    turn (now (a .widths)) (a .d) part (now (a .w)) (now (a .area)) (l .loop .area) w at (l .loop .count) here (c .before .before .before .before .before .before .before .before .before .before .before .before .before .before .before .loop-test .taken) (x .1 .1 .0) (x .1 .1 .1 .0) (nearer by q) (c .before .before .before .before .before .perform .last .1 .1 .1 .1 .1 .0) (c .before .before .before .before .before .perform .last .1 .1 .1 .0) step (st .pre .1 .0) (omega (arith, here .ready .twelve)) (omega (arith, here .ready .whole)) (done-nearer by q _ (rw (c .if2 .left) at (done .0))) (done .1 ∙ inked-nearer by q _ _)
 
 same-length-7 : tie.Need-same-length-7 Inv-loop μ-loop
 same-length-7 c = search needs
@@ -480,6 +492,7 @@ run-spec =
     part-perform-start
     part-perform-end
     perform-requires
+    nearer-requires
     same-length-5
     same-length-6
     returns-3

@@ -2,6 +2,7 @@
 -- Assumes nothing.
 use borrow.Author.Needs.{needs}
 use mathlib.Core.Path.{sym, _∙_}
+use Rattle.part.proofs.Checks.{first-of, second-of}
 use Rattle.part.proofs.settings.orientation.Statement.{statement}
 use Rattle.part.proofs.settings.orientation.Tie as tie
 
@@ -21,10 +22,18 @@ both-requires : tie.Need-both-requires
 both-requires c κs = search needs
 
 returns : tie.Need-returns
-returns c = rw (← c .before .before .before .before .before .word-at .ensures .0, ← c .before .before .before .before .word-at2 .ensures .0, ← c .before .before .before .either .ensures, ← c .before .before .either2 .ensures, sym (c .before .both .ensures) ∙ c .if1 .taken)
+returns c =
+    let ok = sym (c .before .both .ensures) ∙ c .if1 .taken in
+    rw (← c .before .before .before .before .before .word-at .ensures .0, ← c .before .before .before .before .word-at2 .ensures .0, ← c .before .before .before .either .ensures, ← c .before .before .either2 .ensures, first-of (c .before .before .before .either .result) (c .before .before .either2 .result) ok, second-of (c .before .before .before .either .result) (c .before .before .either2 .result) ok)
 
 returns-2 : tie.Need-returns-2
-returns-2 c = rw (← c .before .before .before .before .before .word-at .ensures .0, ← c .before .before .before .before .word-at2 .ensures .0, ← c .before .before .before .either .ensures, ← c .before .before .either2 .ensures, sym (c .before .both .ensures) ∙ c .if1 .left)
+returns-2 c =
+    let first = c .if2 .taken in
+    let second = rw first at (sym (c .before .before .both .ensures) ∙ c .before .if1 .left) in
+    rw (← c .before .before .before .before .before .before .word-at .ensures .0, ← c .before .before .before .before .before .word-at2 .ensures .0, ← c .before .before .before .before .either .ensures, ← c .before .before .before .either2 .ensures, first, second)
+
+returns-3 : tie.Need-returns-3
+returns-3 c = rw (← c .before .before .before .before .before .before .word-at .ensures .0, ← c .before .before .before .before .either .ensures, c .if2 .left)
 
 pub orientation-spec : {M : Type 1} → statement M
 orientation-spec =
@@ -36,4 +45,5 @@ orientation-spec =
     either-requires-2
     both-requires
     returns
-    returns-2)
+    returns-2
+    returns-3)

@@ -2,6 +2,7 @@
 -- Assumes nothing.
 use borrow.Author.Needs.{needs}
 use mathlib.Core.Path.{sym, _∙_}
+use Rattle.part.proofs.Checks.{first-of, second-of}
 use Rattle.part.proofs.settings.set_adjustment.Statement.{statement}
 use Rattle.part.proofs.settings.set_adjustment.Tie as tie
 
@@ -36,10 +37,18 @@ same-length : tie.Need-same-length
 same-length c = search needs
 
 returns : tie.Need-returns
-returns c = rw (← c .before .before .before .before .before .before .before .word-at .ensures .0, ← c .before .before .before .before .before .before .byte-at .ensures .0, ← c .before .before .before .before .before .either .ensures, ← c .before .before .before .before .either2 .ensures, sym (c .before .before .before .both .ensures) ∙ c .before .before .if1 .taken, c .or-default2 .ensures, c .before .or-default .ensures)
+returns c =
+    let ok = sym (c .before .before .before .both .ensures) ∙ c .before .before .if1 .taken in
+    rw (← c .before .before .before .before .before .before .before .word-at .ensures .0, ← c .before .before .before .before .before .before .byte-at .ensures .0, ← c .before .before .before .before .before .either .ensures, ← c .before .before .before .before .either2 .ensures, first-of (c .before .before .before .before .before .either .result) (c .before .before .before .before .either2 .result) ok, second-of (c .before .before .before .before .before .either .result) (c .before .before .before .before .either2 .result) ok, c .or-default2 .ensures, c .before .or-default .ensures)
 
 returns-2 : tie.Need-returns-2
-returns-2 c = rw (← c .before .before .before .before .before .word-at .ensures .0, ← c .before .before .before .before .byte-at .ensures .0, ← c .before .before .before .either .ensures, ← c .before .before .either2 .ensures, sym (c .before .both .ensures) ∙ c .if1 .left)
+returns-2 c =
+    let first = c .if2 .taken in
+    let second = rw first at (sym (c .before .before .both .ensures) ∙ c .before .if1 .left) in
+    rw (← c .before .before .before .before .before .before .word-at .ensures .0, ← c .before .before .before .before .before .byte-at .ensures .0, ← c .before .before .before .before .either .ensures, ← c .before .before .before .either2 .ensures, first, second)
+
+returns-3 : tie.Need-returns-3
+returns-3 c = rw (← c .before .before .before .before .before .before .word-at .ensures .0, ← c .before .before .before .before .either .ensures, c .if2 .left)
 
 pub set-adjustment-spec : {M : Type 1} → statement M
 set-adjustment-spec =
@@ -56,4 +65,5 @@ set-adjustment-spec =
     slice-write-w-2
     same-length
     returns
-    returns-2)
+    returns-2
+    returns-3)
