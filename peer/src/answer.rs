@@ -50,13 +50,38 @@ pub enum Code {
     Room = 29,
 }
 
+impl Code {
+    /// A fault at this byte of its element. Kept out of the way of elements that pass.
+    #[cold]
+    #[inline(never)]
+    pub(crate) const fn at(self, at: usize) -> Fault {
+        Fault { code: self, at }
+    }
+}
+
+/// What is wrong with an element, and at which of its bytes.
+#[derive(Clone, Copy, Debug, PartialEq, Eq)]
+pub struct Fault {
+    /// The code, 20 to 29.
+    pub code: Code,
+    /// The byte at fault, counted from the element's first.
+    pub at: usize,
+}
+
+impl From<Code> for Fault {
+    /// A fault of the element as a whole lies at its first byte.
+    fn from(code: Code) -> Self {
+        code.at(0)
+    }
+}
+
 /// A code and two numbers.
 #[repr(C)]
 #[derive(Clone, Copy, Debug, Default, PartialEq, Eq)]
 pub struct Answer {
     /// The code, as a number of [`Code`].
     pub code: u32,
-    /// Elements (submit done) or the offset of the element at fault.
+    /// Elements (submit done) or the offset of the byte at fault.
     pub first: u32,
     /// Record bytes added (submit done).
     pub second: u32,
@@ -73,9 +98,9 @@ impl Answer {
         Self { code: code as u32, first: 0, second: 0 }
     }
 
-    /// A fault of the element that starts at `offset`.
-    pub const fn at(code: Code, offset: u32) -> Self {
-        Self { code: code as u32, first: offset, second: 0 }
+    /// A fault of the element that starts at `start`.
+    pub const fn at(fault: Fault, start: usize) -> Self {
+        Self { code: fault.code as u32, first: (start + fault.at) as u32, second: 0 }
     }
 
     /// Whether everything asked for was done.

@@ -67,7 +67,7 @@ pub(crate) fn place_elements(
             .and_then(|(element, size)| work.place(element).map(|()| size));
         match placed {
             Ok(size) => rest = &rest[size..],
-            Err(code) => return Err(Answer::at(code, (part.len() - rest.len()) as u32)),
+            Err(fault) => return Err(Answer::at(fault, part.len() - rest.len())),
         }
         elements += 1;
     }

@@ -1,10 +1,10 @@
 //! What each element does: moves, modal values, text and rules.
 
-use crate::answer::Code;
+use crate::answer::{Code, Fault};
 use crate::model::{
     kept, Descriptor, State, ABSENT, AREA, CODE_POINTS, GREATEST_POSITION, LEAST_POSITION, WIDTHS,
 };
-use crate::reader::{self, Element};
+use crate::reader::{self, Element, Parameters};
 use crate::record::{self, HEADER};
 use crate::text::{Bounds, Pitch};
 use crate::values;
@@ -61,9 +61,9 @@ impl<'a> Work<'a> {
 
     /// Does what one element says. After a fault the work is of no more use.
     #[inline(always)]
-    pub(crate) fn place(&mut self, element: Element<'_>) -> Result<(), Code> {
+    pub(crate) fn place(&mut self, element: Element<'_>) -> Result<(), Fault> {
         match element {
-            Element::FreeRun(text) => self.text(text, text.len()),
+            Element::FreeRun(text) => Ok(self.text(text, text.len())?),
             Element::Sequence { function, chains, parameters } => {
                 self.modal.chain = u32::from(chains);
                 self.sequence(function, parameters)
@@ -72,7 +72,7 @@ impl<'a> Work<'a> {
     }
 
     #[inline(always)]
-    fn sequence(&mut self, function: u8, p: &[u8]) -> Result<(), Code> {
+    fn sequence(&mut self, function: u8, p: Parameters<'_>) -> Result<(), Fault> {
         let (d, s) = (self.descriptor, &mut self.modal);
         match function {
             reader::AMI => self.i = values::distance(p)? as i32,
@@ -97,13 +97,13 @@ impl<'a> Work<'a> {
             reader::ESU => s.suppression = paired(s.suppression, values::suppression(p)?, 0)?,
             reader::DIR => return self.rule(Axis::I, p),
             reader::DBR => return self.rule(Axis::B, p),
-            reader::TRN => return self.text(p, p.len()),
+            reader::TRN => self.text(p.bytes, p.bytes.len())?,
             reader::RPS => {
                 let (text, count) = values::repetition(p)?;
-                return self.text(text, count);
+                self.text(text, count)?;
             }
             reader::NOP => {}
-            _ => return Err(Code::Type),
+            _ => return Err(Code::Type.at(p.start() - 1)),
         }
         Ok(())
     }
@@ -167,7 +167,7 @@ impl<'a> Work<'a> {
 
     /// Draws a rule from I, B; it moves nothing.
     #[inline(always)]
-    fn rule(&mut self, axis: Axis, p: &[u8]) -> Result<(), Code> {
+    fn rule(&mut self, axis: Axis, p: Parameters<'_>) -> Result<(), Fault> {
         let length = values::distance(p)?;
         let width = values::rule_width_or(p, self.descriptor.rule)?;
         if self.is_hidden() {
@@ -176,7 +176,7 @@ impl<'a> Work<'a> {
         let (along_i, along_b) = if axis == Axis::I { (length, width) } else { (width, length) };
         let d = self.descriptor;
         if !within(self.i, along_i, d.size_i) || !within(self.b, along_b, d.size_b) {
-            return Err(Code::Outside);
+            return Err(Code::Outside.into());
         }
         let header = record::header([
             HEADER as u16,

@@ -1,6 +1,6 @@
 //! Cuts a part into elements: free runs and control sequences.
 
-use crate::answer::Code;
+use crate::answer::{Code, Fault};
 
 /// Control sequence prefix.
 pub const PREFIX: u8 = 0x2B;
@@ -130,13 +130,30 @@ pub enum Element<'a> {
         /// Whether the next sequence comes without prefix and class.
         chains: bool,
         /// The bytes after TYPE.
-        parameters: &'a [u8],
+        parameters: Parameters<'a>,
     },
+}
+
+/// The parameters of a sequence.
+#[derive(Clone, Copy, Debug, PartialEq, Eq)]
+pub struct Parameters<'a> {
+    /// Their bytes.
+    pub bytes: &'a [u8],
+    /// Where they and the element end, counted from its first byte.
+    pub end: usize,
+}
+
+impl Parameters<'_> {
+    /// Where they begin, counted as their end.
+    #[inline(always)]
+    pub const fn start(self) -> usize {
+        self.end - self.bytes.len()
+    }
 }
 
 /// Reads the element at the start of `rest`, which isn't empty; gives it and its size.
 #[inline(always)]
-pub fn read(rest: &[u8], chained: bool) -> Result<(Element<'_>, usize), Code> {
+pub fn read(rest: &[u8], chained: bool) -> Result<(Element<'_>, usize), Fault> {
     if chained {
         return sequence(rest, 0);
     }
@@ -145,32 +162,33 @@ pub fn read(rest: &[u8], chained: bool) -> Result<(Element<'_>, usize), Code> {
         return Ok((Element::FreeRun(&rest[..size]), size));
     }
     match rest.get(1) {
-        Some(&class) if class != CLASS => Err(Code::Prefix),
+        Some(&class) if class != CLASS => Err(Code::Prefix.at(1)),
         _ => sequence(rest, 2),
     }
 }
 
 /// Reads the sequence whose LENGTH is at `start`: 0 in a chain, else 2.
 #[inline(always)]
-fn sequence(rest: &[u8], start: usize) -> Result<(Element<'_>, usize), Code> {
+fn sequence(rest: &[u8], start: usize) -> Result<(Element<'_>, usize), Fault> {
     let Some(&[length, kind]) = rest.get(start..start + 2) else {
-        return Err(Code::Cut);
+        return Err(Code::Cut.into());
     };
     if length < 2 {
-        return Err(Code::Length);
+        return Err(Code::Length.at(start));
     }
     let lengths = BY_TYPE[usize::from(kind >> 1)];
     if lengths.is_unknown() {
-        return Err(Code::Type);
+        return Err(Code::Type.at(start + 1));
     }
     if !lengths.admits(length) {
-        return Err(Code::Length);
+        return Err(Code::Length.at(start));
     }
     let size = start + usize::from(length);
-    let Some(parameters) = rest.get(start + 2..size) else {
-        return Err(Code::Cut);
+    let Some(bytes) = rest.get(start + 2..size) else {
+        return Err(Code::Cut.into());
     };
     let (function, chains) = (kind & !CHAIN, kind & CHAIN != 0);
+    let parameters = Parameters { bytes, end: size };
     Ok((Element::Sequence { function, chains, parameters }, size))
 }
 

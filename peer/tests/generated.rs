@@ -2,6 +2,7 @@
 
 use peer::generate::{case, sized_part, Ground, Reach, Requests, Rng};
 use peer::model::{AREA, RECORDS, SLOTS, WIDTHS};
+use peer::reader::{read, Element};
 use peer::replay::{Peer, Replay, Said, Stopped};
 use peer::script::Step;
 use peer::{interpret, sheet, State};
@@ -56,6 +57,49 @@ fn direct_calls_meet_every_answer_and_refusals_touch_nothing() {
         let direct = code == 0 || code >= 19 || [10, 12, 15].contains(&code);
         assert!(met[code as usize] >= 100 || !direct, "{code}: {met:?}");
         assert!(met[code as usize] == 0 || direct, "{code}: {met:?}");
+    }
+}
+
+/// Where the element starts that has this byte, and whether it is in a chain.
+fn element_with(byte: usize, part: &[u8], mut chained: bool) -> (usize, bool) {
+    let mut start = 0;
+    loop {
+        match read(&part[start..], chained) {
+            Ok((element, size)) if start + size <= byte => {
+                start += size;
+                chained = matches!(element, Element::Sequence { chains: true, .. });
+            }
+            _ => return (start, chained),
+        }
+    }
+}
+
+#[test]
+fn refusals_point_at_a_byte_that_their_code_names() {
+    let mut rng = Rng::new(4);
+    for _ in 0..20_000 {
+        let mut now = case(&mut rng);
+        let chained = now.state.chain != 0;
+        let answer =
+            interpret(&now.part, &now.widths, &mut now.area, &now.descriptor, &mut now.state);
+        if answer.code < 20 {
+            continue;
+        }
+        let first = answer.first as usize;
+        assert!(first < now.part.len());
+        let (start, chained) = element_with(first, &now.part, chained);
+        let length_at = start + if chained { 0 } else { 2 };
+        let points = match answer.code {
+            21 => first == start + 1 && !chained,
+            22 => first == length_at,
+            23 => first == length_at + 1,
+            24 | 25 => {
+                let length = usize::from(now.part[length_at]);
+                (length_at + 2..length_at + length).contains(&first)
+            }
+            _ => first == start,
+        };
+        assert!(points, "{answer:?}, element at {start}, in a chain: {chained}");
     }
 }
 

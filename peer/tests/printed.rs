@@ -30,7 +30,10 @@ fn listings_of_rules_and_refusals() {
         "PART 26\nT 100 0 0 65287 -2 65535 C1C2\nR 384 0 1 65287 10 14\nEND 384 0 5 34\n"
     );
     assert_eq!(listing(&hex("2BD304C9FFFB")), "PART 6\nEND -5 0 1 0\n");
-    assert_eq!(listing(&hex("C12BC1")), "PART 3\nREFUSED 21 1\n");
+    assert_eq!(listing(&hex("C12BC1")), "PART 3\nREFUSED 21 2\n");
+    assert_eq!(listing(&hex("2BD304C68000")), "PART 6\nREFUSED 24 4\n");
+    assert_eq!(listing(&hex("2BD302D9 06F7FFFF0000")), "PART 10\nREFUSED 24 8\n");
+    assert_eq!(listing(&hex("2BD304C72F41 03DAC1")), "PART 9\nREFUSED 27 6\n");
     assert_eq!(listing(&[0x2B; 8_193]), "PART 8193\nREFUSED 19 0\n");
     assert_eq!(listing(&[0x2B; 9_000]), "PART 8193\nREFUSED 19 0\n");
 }

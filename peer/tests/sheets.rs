@@ -24,11 +24,11 @@ fn sheets_to_try() {
     sheet("", answer(0, 0, 0));
     assert_eq!(sheet("2BD302D8", answer(0, 1, 0)).place(), (0, 240));
     sheet("2B", answer(20, 0, 0));
-    sheet("C12BC1", answer(21, 1, 0));
-    sheet("2BD301D8", answer(22, 0, 0));
-    sheet("2BD30272", answer(23, 0, 0));
+    sheet("C12BC1", answer(21, 2, 0));
+    sheet("2BD301D8", answer(22, 2, 0));
+    sheet("2BD30272", answer(23, 3, 0));
     sheet("2BD304C67F", answer(20, 0, 0));
-    sheet("2BD304C68000", answer(24, 0, 0));
+    sheet("2BD304C68000", answer(24, 4, 0));
     sheet("2BD304C62F40C1", answer(0, 2, 17));
     sheet("2BD304C62F41C1", answer(27, 6, 0));
     sheet("2BD304DA2BD3", answer(0, 1, 18));
@@ -75,28 +75,28 @@ fn an_open_chain_without_elements() {
 #[test]
 fn order_of_checks() {
     sheet("2BD301", answer(20, 0, 0));
-    sheet("2BD30072", answer(22, 0, 0));
-    sheet("2BD303C6", answer(22, 0, 0));
-    sheet("2BD305E40001", answer(22, 0, 0));
+    sheet("2BD30072", answer(22, 2, 0));
+    sheet("2BD303C6", answer(22, 2, 0));
+    sheet("2BD305E40001", answer(22, 2, 0));
     sheet("2BD3", answer(20, 0, 0));
-    sheet("2BD302FF", answer(23, 0, 0));
+    sheet("2BD302FF", answer(23, 3, 0));
 }
 
 #[test]
 fn defaults_and_values() {
-    sheet("2BD304C6FFFF", answer(24, 0, 0));
+    sheet("2BD304C6FFFF", answer(24, 4, 0));
     sheet("2BD304C0FFFF", answer(0, 1, 0));
-    sheet("2BD303F004", answer(25, 0, 0));
-    sheet("2BD303F0FE", answer(25, 0, 0));
+    sheet("2BD303F004", answer(25, 4, 0));
+    sheet("2BD303F0FE", answer(25, 4, 0));
     assert_eq!(sheet("2BD303F0FF", answer(0, 1, 0)).state().font, 0);
     sheet("2BD30574FF077E", answer(0, 1, 0));
-    sheet("2BD304EE0001", answer(24, 0, 0));
+    sheet("2BD304EE0001", answer(24, 4, 0));
     sheet("2BD304EE0000", answer(0, 1, 0));
     sheet("2BD306F6FFFF2D00", answer(0, 1, 0));
     sheet("2BD306F60000FFFF", answer(0, 1, 0));
-    sheet("2BD306F62D005A00", answer(24, 0, 0));
-    sheet("2BD303F200", answer(24, 0, 0));
-    sheet("2BD303F280", answer(24, 0, 0));
+    sheet("2BD306F62D005A00", answer(24, 4, 0));
+    sheet("2BD303F200", answer(24, 4, 0));
+    sheet("2BD303F280", answer(24, 4, 0));
     assert_eq!(sheet("2BD304C80000 2BD304C8FFFF", answer(0, 2, 0)).place(), (-1, 0));
 }
 
@@ -115,16 +115,16 @@ fn each_half_of_an_adjustment_defaults_alone() {
         let state = desk.state();
         assert_eq!((state.adjustment, state.direction), (amount, direction), "{digits}");
     }
-    sheet("2BD304C21000", answer(24, 0, 0));
-    sheet("2BD305C2000002", answer(24, 0, 0));
+    sheet("2BD304C21000", answer(24, 4, 0));
+    sheet("2BD305C2000002", answer(24, 6, 0));
 }
 
 #[test]
 fn rules_have_records() {
-    sheet("2BD307E40001FFFF00", answer(24, 0, 0));
-    sheet("2BD307E4000100C001", answer(24, 0, 0));
-    sheet("2BD307E4000100C100", answer(24, 0, 0));
-    sheet("2BD304E4FFFF", answer(24, 0, 0));
+    sheet("2BD307E40001FFFF00", answer(24, 6, 0));
+    sheet("2BD307E4000100C001", answer(24, 6, 0));
+    sheet("2BD307E4000100C100", answer(24, 6, 0));
+    sheet("2BD304E4FFFF", answer(24, 4, 0));
     sheet("2BD304E40000", answer(0, 1, 16));
     let desk = sheet("2BD307E40001FFFFFF", answer(0, 1, 16));
     let colour = 0xFF07;
