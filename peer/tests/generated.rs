@@ -1,11 +1,15 @@
 //! Generated parts and requests: every answer occurs, and a refusal touches nothing.
 
-use peer::generate::{case, sized_part, Ground, Reach, Requests, Rng};
+use std::collections::BTreeMap;
+
+use peer::generate::{case, sized_part, Case, Ground, Reach, Requests, Rng};
 use peer::model::{AREA, RECORDS, SLOTS, WIDTHS};
-use peer::reader::{read, Element};
+use peer::reader::{
+    read, Element, AMB, AMI, BSU, CHAIN, DBR, DIR, ESU, RPS, SBI, SCFL, SIA, SIM, STC, STO, SVI,
+};
 use peer::replay::{Peer, Replay, Said, Stopped};
 use peer::script::Step;
-use peer::{interpret, sheet, State};
+use peer::{interpret, sheet, Answer, State};
 
 const CODES: [u32; 22] =
     [0, 1, 10, 11, 12, 13, 14, 15, 16, 17, 18, 19, 20, 21, 22, 23, 24, 25, 26, 27, 28, 29];
@@ -60,46 +64,122 @@ fn direct_calls_meet_every_answer_and_refusals_touch_nothing() {
     }
 }
 
-/// Where the element starts that has this byte, and whether it is in a chain.
-fn element_with(byte: usize, part: &[u8], mut chained: bool) -> (usize, bool) {
-    let mut start = 0;
-    loop {
-        match read(&part[start..], chained) {
-            Ok((element, size)) if start + size <= byte => {
-                start += size;
-                chained = matches!(element, Element::Sequence { chains: true, .. });
+/// What a direct call says.
+fn asked(given: &Case) -> Answer {
+    let Case { part, widths, area, descriptor, state } = &mut given.clone();
+    interpret(part, widths, area, descriptor, state)
+}
+
+/// A code, the type if a value is wrong, the byte's place in its element, and whether in a chain.
+type Class = (u32, u8, usize, bool);
+
+/// A refusal of a generated part, and the element that it points into.
+struct Refused {
+    given: Case,
+    answer: Answer,
+    start: usize,
+    chained: bool,
+    /// Where LENGTH is, if the element is a sequence.
+    length_at: usize,
+}
+
+impl Refused {
+    fn new(given: Case, answer: Answer) -> Self {
+        let (mut start, mut chained) = (0, given.state.chain != 0);
+        while let Ok((element, size)) = read(&given.part[start..], chained) {
+            if start + size > answer.first as usize {
+                break;
             }
-            _ => return (start, chained),
+            start += size;
+            chained = matches!(element, Element::Sequence { chains: true, .. });
         }
+        let length_at = start + if chained { 0 } else { 2 };
+        Self { given, answer, start, chained, length_at }
+    }
+
+    /// The refusals 20 to 29 among so many parts.
+    fn some(seed: u64, parts: usize) -> impl Iterator<Item = Self> {
+        let mut rng = Rng::new(seed);
+        let cases = std::iter::repeat_with(move || case(&mut rng)).take(parts);
+        cases.filter_map(|given| {
+            let answer = asked(&given);
+            (answer.code >= 20).then(|| Self::new(given, answer))
+        })
+    }
+
+    /// Whether the byte is one that the code names.
+    fn points(&self) -> bool {
+        let Self { start, chained, length_at, .. } = *self;
+        let (part, first) = (&self.given.part, self.answer.first as usize);
+        first < part.len()
+            && match self.answer.code {
+                21 => first == start + 1 && !chained,
+                22 => first == length_at,
+                23 => first == length_at + 1,
+                24 | 25 => {
+                    let end = length_at + usize::from(part[length_at]);
+                    (length_at + 2..end).contains(&first)
+                }
+                _ => first == start,
+            }
+    }
+
+    fn class(&self) -> Class {
+        let function = match self.answer.code {
+            24 | 25 => self.given.part[self.length_at + 1] & !CHAIN,
+            _ => 0,
+        };
+        (self.answer.code, function, self.answer.first as usize - self.start, self.chained)
+    }
+
+    /// Whether the second parameter is at fault too, which shows when the first is mended.
+    fn is_twofold(&self) -> bool {
+        let first = self.answer.first as usize;
+        if self.answer.code != 24 || first != self.length_at + 2 {
+            return false;
+        }
+        let mut mended = self.given.clone();
+        mended.part[first..].iter_mut().take(2).for_each(|byte| *byte = 0);
+        asked(&mended) == Answer { first: self.answer.first + 2, ..self.answer }
     }
 }
 
+/// Types of two parameters that can be wrong.
+const TWO: [u8; 4] = [SIA, STO, DIR, DBR];
+
+/// Every place that a code names, of every type, in a chain or not.
+fn classes(chained: bool) -> Vec<Class> {
+    let length = if chained { 0 } else { 2 };
+    let whole = [20, 26, 27, 28, 29].map(|code| (code, 0, 0, chained));
+    let introducer = [(22, 0, length, chained), (23, 0, length + 1, chained)];
+    let only = [AMI, AMB, SIM, SBI, SVI, STC, BSU, ESU, RPS];
+    let only = only.map(|function| (24, function, length + 2, chained));
+    let font = [(25, SCFL, length + 2, chained)];
+    let first = TWO.map(|function| (24, function, length + 2, chained));
+    let second = TWO.map(|function| (24, function, length + 4, chained));
+    [&whole[..], &introducer, &only, &font, &first, &second].concat()
+}
+
 #[test]
-fn refusals_point_at_a_byte_that_their_code_names() {
-    let mut rng = Rng::new(4);
-    for _ in 0..20_000 {
-        let mut now = case(&mut rng);
-        let chained = now.state.chain != 0;
-        let answer =
-            interpret(&now.part, &now.widths, &mut now.area, &now.descriptor, &mut now.state);
-        if answer.code < 20 {
-            continue;
-        }
-        let first = answer.first as usize;
-        assert!(first < now.part.len());
-        let (start, chained) = element_with(first, &now.part, chained);
-        let length_at = start + if chained { 0 } else { 2 };
-        let points = match answer.code {
-            21 => first == start + 1 && !chained,
-            22 => first == length_at,
-            23 => first == length_at + 1,
-            24 | 25 => {
-                let length = usize::from(now.part[length_at]);
-                (length_at + 2..length_at + length).contains(&first)
-            }
-            _ => first == start,
-        };
-        assert!(points, "{answer:?}, element at {start}, in a chain: {chained}");
+fn refusals_point_at_a_byte_that_their_code_names_and_meet_every_one_often() {
+    let mut behind: BTreeMap<Class, u32> = BTreeMap::new();
+    let mut twofold = behind.clone();
+    for refused in Refused::some(4, 20_000) {
+        let Refused { answer, start, chained, .. } = refused;
+        assert!(refused.points(), "{answer:?}, element at {start}, in a chain: {chained}");
+        *behind.entry(refused.class()).or_default() += u32::from(start > 0);
+        *twofold.entry(refused.class()).or_default() += u32::from(refused.is_twofold());
+    }
+    println!("{behind:?}");
+    let wanted = [classes(false), classes(true), vec![(21, 0, 1, false)]].concat();
+    for class in &wanted {
+        assert!(behind.get(class) >= Some(&20), "{class:?}: {:?}", behind.get(class));
+    }
+    // No other place is named.
+    assert_eq!(behind.len(), wanted.len(), "{behind:?}");
+    for class in wanted.iter().filter(|class| TWO.contains(&class.1)) {
+        let is_first = class.2 == if class.3 { 2 } else { 4 };
+        assert!(twofold[class] >= 3 || !is_first, "{class:?}: {}", twofold[class]);
     }
 }
 

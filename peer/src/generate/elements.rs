@@ -37,6 +37,11 @@ pub(super) fn element(rng: &mut Rng, ground: &Ground, hand: Hand) -> Vec<u8> {
     } else {
         rng.pick(&TYPES).0
     };
+    typed(rng, ground, hand, function)
+}
+
+/// A sequence of this type for the place where `ground` stands.
+pub(super) fn typed(rng: &mut Rng, ground: &Ground, hand: Hand, function: u8) -> Vec<u8> {
     let parameters = parameters(rng, ground, function);
     sequence(rng, ground.state.chain != 0, hand, function, &parameters)
 }
@@ -67,8 +72,7 @@ fn some_text(rng: &mut Rng, ground: &Ground, hand: Hand) -> Vec<u8> {
         return free_run(rng, longest);
     }
     let function = rng.pick(&[reader::TRN, reader::TRN, reader::RPS]);
-    let parameters = parameters(rng, ground, function);
-    sequence(rng, chained, hand, function, &parameters)
+    typed(rng, ground, hand, function)
 }
 
 /// A move and TRN so that the text ends at the page's edge, or I at its range's, or one beyond.
@@ -222,7 +226,7 @@ fn rule(rng: &mut Rng, kept: u32, size: u32) -> Vec<u8> {
         bytes.extend(or_edge(rng, width, &[0, 0xC0, 0xC0, 0xC1, 0x100, 0x7FFF, 0xFFFF, 0xFFFF]));
         let all_ones = bytes[2..] == [0xFF, 0xFF];
         let usual = if all_ones { 0xFF } else { 0x00 };
-        bytes.push(if rng.chance(1, 8) { rng.pick(&[0x00, 0x01, 0xFE, 0xFF]) } else { usual });
+        bytes.push(if rng.chance(1, 4) { rng.pick(&[0x00, 0x01, 0xFE, 0xFF]) } else { usual });
     }
     bytes
 }
@@ -257,8 +261,7 @@ pub(super) fn broken(rng: &mut Rng, ground: &Ground, hand: Hand) -> Vec<u8> {
     let chained = ground.state.chain != 0;
     let start = if chained { 0 } else { 2 };
     let (function, _) = rng.pick(&TYPES);
-    let parameters = parameters(rng, ground, function);
-    let mut bytes = sequence(rng, chained, hand, function, &parameters);
+    let mut bytes = typed(rng, ground, hand, function);
     match rng.below(8) {
         0 if !chained => bytes[1] = rng.pick(&[0x00, 0x2B, 0xD2, 0xD4, 0xFF]),
         0 | 1 => bytes[start] = rng.pick(&[0, 1]),

@@ -9,8 +9,36 @@ use super::rng::Rng;
 use crate::answer::{Answer, Code};
 use crate::interpret::interpret;
 use crate::model::{Descriptor, State, AREA, LONGEST_PART, WIDTHS};
-use crate::reader::{AMB, AMI, BSU, CLASS, DIR, NOP, PREFIX, SIA};
+use crate::reader::{
+    AMB, AMI, BSU, CLASS, DBR, DIR, ESU, NOP, PREFIX, RPS, SBI, SCFL, SIA, SIM, STC, STO, SVI,
+};
 use crate::record::HEADER;
+
+/// The types whose values can be wrong, twice those of two parameters.
+const JUDGED: [u8; 18] =
+    [AMI, AMB, SIM, SBI, SVI, SCFL, STC, BSU, ESU, RPS, SIA, SIA, STO, STO, DIR, DIR, DBR, DBR];
+
+/// How an element is to fail.
+#[derive(Clone, Copy)]
+enum Flaw {
+    /// It is none of the nineteen, or not of its LENGTH.
+    Broken,
+    /// A value of this type is wrong.
+    Value(u8),
+    /// In any way, best with this code.
+    Any(u32),
+}
+
+impl Flaw {
+    /// Whether this answer is what was meant.
+    fn is_met(self, answer: Answer) -> bool {
+        match self {
+            Self::Broken => !answer.is_done(),
+            Self::Value(_) => [Code::Value as u32, Code::Font as u32].contains(&answer.code),
+            Self::Any(code) => answer.code == code,
+        }
+    }
+}
 
 /// A part under way, and the ground as the elements so far leave it.
 struct Draft<'a> {
@@ -119,24 +147,23 @@ impl<'a> Draft<'a> {
         }
     }
 
-    /// Adds an element that fails, if one is found, best with a code drawn before.
-    fn fail(&mut self, rng: &mut Rng, broken: bool) {
-        let wanted = rng.between(24, 29);
-        if wanted == Code::Room as u32 {
+    /// Adds an element that fails, if one is found, best as meant.
+    fn fail(&mut self, rng: &mut Rng, flaw: Flaw) {
+        if matches!(flaw, Flaw::Any(code) if code == Code::Room as u32) {
             self.brim(rng);
         }
         let mut failed = Vec::new();
         for _ in 0..150 {
-            let bytes = if broken {
-                elements::broken(rng, &self.ground, self.hand)
-            } else {
-                self.element(rng)
+            let bytes = match flaw {
+                Flaw::Broken => elements::broken(rng, &self.ground, self.hand),
+                Flaw::Value(function) => elements::typed(rng, &self.ground, self.hand, function),
+                Flaw::Any(_) => self.element(rng),
             };
             let answer = self.attempt(&bytes);
             if !answer.is_done() {
                 failed = bytes;
             }
-            if answer.code == wanted || broken && !answer.is_done() {
+            if flaw.is_met(answer) {
                 break;
             }
         }
@@ -159,7 +186,7 @@ fn length(rng: &mut Rng) -> usize {
 pub fn part(rng: &mut Rng, ground: &Ground<'_>) -> Vec<u8> {
     let size = length(rng);
     let mut draft = Draft::new(rng, ground);
-    match rng.below(32) {
+    match rng.below(35) {
         0 => return any_bytes(rng, size),
         1 => {
             let over = rng.pick(&[1, 1, 1, 2, 3, 7, 8, 255, LONGEST_PART, 65_536]);
@@ -178,9 +205,16 @@ pub fn part(rng: &mut Rng, ground: &Ground<'_>) -> Vec<u8> {
             draft.grow(rng, size);
             draft.part.truncate(size - rng.size(size.min(12)));
         }
-        8 | 9 => fault(rng, &mut draft, size, true),
-        10..=16 => fault(rng, &mut draft, size, false),
-        17 | 18 => {
+        8 | 9 => fault(rng, &mut draft, size, Flaw::Broken),
+        10..=16 => {
+            let code = rng.between(24, 29);
+            fault(rng, &mut draft, size, Flaw::Any(code));
+        }
+        17..=19 => {
+            let function = rng.pick(&JUDGED);
+            fault(rng, &mut draft, size, Flaw::Value(function));
+        }
+        20 | 21 => {
             draft.grow(rng, size.min(LONGEST_PART - 600));
             draft.edge(rng);
         }
@@ -196,11 +230,13 @@ pub fn sized_part(rng: &mut Rng, ground: &Ground<'_>, size: usize) -> Vec<u8> {
     draft.part
 }
 
-/// A part with an element at fault, and often more after it.
-fn fault(rng: &mut Rng, draft: &mut Draft<'_>, size: usize, broken: bool) {
-    // A full area takes up to 258 sequences of 6 bytes.
-    draft.grow(rng, size.min(LONGEST_PART - 2_000));
-    draft.fail(rng, broken);
+/// A part with an element at fault, now and then its first one, and often more after it.
+fn fault(rng: &mut Rng, draft: &mut Draft<'_>, size: usize, flaw: Flaw) {
+    if rng.chance(3, 4) {
+        // A full area takes up to 258 sequences of 6 bytes.
+        draft.grow(rng, size.min(LONGEST_PART - 2_000));
+    }
+    draft.fail(rng, flaw);
     if rng.chance(1, 2) {
         let tail = rng.size(40);
         draft.part.extend(any_bytes(rng, tail));
