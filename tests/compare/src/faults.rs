@@ -2,6 +2,7 @@
 
 use peer::hub::Lent;
 use peer::model::{AREA, SLOTS};
+use peer::reader::{CHAIN, DBR, DIR, SIA, STO};
 use peer::replay::Backend;
 use peer::{Answer, Code, Descriptor, Entry, State};
 
@@ -20,6 +21,7 @@ pub enum Fault {
     PartRecord,
     PartState,
     PartRefusal,
+    PartPlace,
     CheckCode,
     Order,
     Retaken,
@@ -27,7 +29,7 @@ pub enum Fault {
 }
 
 /// Every fault, its name for `--break`, and the test that is to find it.
-pub const FAULTS: [(Fault, &str, &str); 16] = [
+pub const FAULTS: [(Fault, &str, &str); 17] = [
     (Fault::FreshKey, "fresh-key", "requests"),
     (Fault::OpenKey, "open-key", "requests"),
     (Fault::CloseForgets, "close-forgets", "requests"),
@@ -40,6 +42,7 @@ pub const FAULTS: [(Fault, &str, &str); 16] = [
     (Fault::PartRecord, "part-record", "parts"),
     (Fault::PartState, "part-state", "parts"),
     (Fault::PartRefusal, "part-refusal", "parts"),
+    (Fault::PartPlace, "part-place", "parts"),
     (Fault::CheckCode, "check-code", "parts"),
     (Fault::Order, "order", "swap"),
     (Fault::Retaken, "retaken", "repeat"),
@@ -136,6 +139,7 @@ impl<B: Backend> Backend for Broken<B> {
             Fault::PartRecord if answer.second > 0 => area[s.used as usize - 1] ^= 1,
             Fault::PartState if answer.second > 0 => s.margin += 1,
             Fault::PartRefusal if answer.code == Code::Pairing as u32 => s.suppression ^= 1,
+            Fault::PartPlace if is_second(part, answer) => answer.first -= 2,
             _ => {}
         }
         answer
@@ -149,4 +153,13 @@ impl<B: Backend> Backend for Broken<B> {
             code => code,
         }
     }
+}
+
+/// Whether the value at fault is its sequence's second: LENGTH, TYPE and the first stand before it.
+fn is_second(part: &[u8], answer: Answer) -> bool {
+    let before = part.get(..answer.first as usize).and_then(<[u8]>::last_chunk);
+    let second = before.is_some_and(|&[length, kind, _, _]| {
+        [(5, SIA), (6, STO), (7, DIR), (7, DBR)].contains(&(length, kind & !CHAIN))
+    });
+    second && answer.code == Code::Value as u32
 }
