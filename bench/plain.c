@@ -24,16 +24,23 @@ typedef struct work {
     uint8_t *records;
     halviruso_state s;
     int32_t i, b;
+    const uint8_t *fault; /* the byte at fault; null: the element's first */
 } work;
 
 static inline uint32_t two(const uint8_t *p) {
     return (uint32_t)p[0] << 8 | p[1];
 }
 
+static inline uint32_t wrong(work *w, uint32_t code, const uint8_t *byte) {
+    w->fault = byte;
+    return code;
+}
+
 /* A value up to `greatest`, or all ones for `other`; 24 if neither. */
-static inline uint32_t set(uint32_t *to, uint32_t value, uint32_t greatest, uint32_t other) {
+static inline uint32_t set(work *w, uint32_t *to, const uint8_t *p, uint32_t greatest, uint32_t other) {
+    uint32_t value = two(p);
     if (value > greatest && value != 0xFFFF)
-        return 24;
+        return wrong(w, 24, p);
     *to = value == 0xFFFF ? other : value;
     return 0;
 }
@@ -140,11 +147,11 @@ static inline int on_sheet(int32_t start, uint32_t extent, uint32_t size) {
 static inline uint32_t draw(work *w, const uint8_t *p, uint32_t n, uint32_t axis) {
     uint32_t length = two(p), width = w->d->rule;
     if (length > 0x7FFF)
-        return 24;
+        return wrong(w, 24, p);
     if (n == 5 && !(p[2] == 0xFF && p[3] == 0xFF && p[4] == 0xFF)) {
         width = two(p + 2);
         if (width > 0xC0 || p[4] != 0)
-            return 24;
+            return wrong(w, 24, p + 2);
     }
     if (hides(w))
         return 0;
@@ -159,50 +166,60 @@ static inline uint32_t draw(work *w, const uint8_t *p, uint32_t n, uint32_t axis
 
 static inline uint32_t adjust(work *w, const uint8_t *p, uint32_t n) {
     uint32_t direction = n == 3 ? p[2] : 0;
-    uint32_t code = set(&w->s.adjustment, two(p), 0x0FFF, w->d->adjustment);
-    if (code != 0 || (direction > 1 && direction != 0xFF))
-        return 24;
+    uint32_t code = set(w, &w->s.adjustment, p, 0x0FFF, w->d->adjustment);
+    if (code != 0)
+        return code;
+    if (direction > 1 && direction != 0xFF)
+        return wrong(w, 24, p + 2);
     w->s.direction = direction == 0xFF ? w->d->direction : direction;
     return 0;
 }
 
-static inline uint32_t colour(work *w, uint32_t value) {
+static inline uint32_t colour(work *w, const uint8_t *p) {
+    uint32_t value = two(p);
     if (value != 0x0000 && value != 0xFF00 && value != 0xFF07 && value != 0xFFFF)
-        return 24;
+        return wrong(w, 24, p);
     w->s.colour = value == 0xFFFF ? w->d->colour : value;
     return 0;
 }
 
-static inline uint32_t font(work *w, uint32_t value) {
+static inline uint32_t font(work *w, const uint8_t *p) {
+    uint32_t value = p[0];
     if (value > 3 && value != 0xFF)
-        return 25;
+        return wrong(w, 25, p);
     w->s.font = value == 0xFF ? w->d->font : value;
     return 0;
 }
 
-static inline uint32_t suppress(work *w, uint32_t id, uint32_t now, uint32_t then) {
-    if (id < 1 || id > 0x7F)
-        return 24;
+static inline uint32_t suppress(work *w, const uint8_t *p, uint32_t now, uint32_t then) {
+    if (p[0] < 1 || p[0] > 0x7F)
+        return wrong(w, 24, p);
     if (w->s.suppression != now)
         return 26;
     w->s.suppression = then;
     return 0;
 }
 
-static inline uint32_t orient(uint32_t i_axis, uint32_t b_axis) {
-    return (i_axis == 0x0000 || i_axis == 0xFFFF) && (b_axis == 0x2D00 || b_axis == 0xFFFF) ? 0 : 24;
+static inline uint32_t orient(work *w, const uint8_t *p) {
+    uint32_t i_axis = two(p), b_axis = two(p + 2);
+    if (i_axis != 0x0000 && i_axis != 0xFFFF)
+        return wrong(w, 24, p);
+    if (b_axis != 0x2D00 && b_axis != 0xFFFF)
+        return wrong(w, 24, p + 2);
+    return 0;
 }
 
 static inline uint32_t repeat(work *w, const uint8_t *p, uint32_t n) {
     uint32_t count = two(p);
     if (count > 0x7FFF || (count > 0 && n == 2))
-        return 24;
+        return wrong(w, 24, p);
     return show(w, p + 2, n - 2, count);
 }
 
-static inline uint32_t absolute(int32_t *to, uint32_t value) {
+static inline uint32_t absolute(work *w, int32_t *to, const uint8_t *p) {
+    uint32_t value = two(p);
     if (value > 0x7FFF)
-        return 24;
+        return wrong(w, 24, p);
     *to = (int32_t)value;
     return 0;
 }
@@ -216,20 +233,20 @@ static inline uint32_t line(work *w) {
 
 static inline __attribute__((always_inline)) uint32_t perform(work *w, uint32_t type, const uint8_t *p, uint32_t n) {
     switch (type) {
-    case 0xC6: return absolute(&w->i, two(p));
-    case 0xD2: return absolute(&w->b, two(p));
+    case 0xC6: return absolute(w, &w->i, p);
+    case 0xD2: return absolute(w, &w->b, p);
     case 0xC8: return move(&w->i, w->i + (int16_t)two(p));
     case 0xD4: return move(&w->b, w->b + (int16_t)two(p));
     case 0xD8: return line(w);
-    case 0xC0: return set(&w->s.margin, two(p), 0x7FFF, w->d->margin);
-    case 0xD0: return set(&w->s.increment, two(p), 0x7FFF, w->d->increment);
+    case 0xC0: return set(w, &w->s.margin, p, 0x7FFF, w->d->margin);
+    case 0xD0: return set(w, &w->s.increment, p, 0x7FFF, w->d->increment);
     case 0xC2: return adjust(w, p, n);
-    case 0xC4: return set(&w->s.space, two(p), 0x0FFF, HALVIRUSO_ABSENT);
-    case 0xF0: return font(w, p[0]);
-    case 0x74: return colour(w, two(p));
-    case 0xF6: return orient(two(p), two(p + 2));
-    case 0xF2: return suppress(w, p[0], 0, p[0]);
-    case 0xF4: return suppress(w, p[0], p[0], 0);
+    case 0xC4: return set(w, &w->s.space, p, 0x0FFF, HALVIRUSO_ABSENT);
+    case 0xF0: return font(w, p);
+    case 0x74: return colour(w, p);
+    case 0xF6: return orient(w, p);
+    case 0xF2: return suppress(w, p, 0, p[0]);
+    case 0xF4: return suppress(w, p, p[0], 0);
     case 0xE4: return draw(w, p, n, 0);
     case 0xE6: return draw(w, p, n, 1);
     case 0xDA: return show(w, p, n, n);
@@ -248,7 +265,7 @@ static inline __attribute__((always_inline)) uint32_t element(work *w, const uin
             return show(w, rest, (uint32_t)*size, (uint32_t)*size);
         }
         if (left > 1 && rest[1] != 0xD3)
-            return 21;
+            return wrong(w, 21, rest + 1);
         start = 2;
     }
     if (left < start + 2)
@@ -256,11 +273,11 @@ static inline __attribute__((always_inline)) uint32_t element(work *w, const uin
     uint32_t length = rest[start], type = rest[start + 1];
     row r = ROWS[type >> 1];
     if (length < 2)
-        return 22;
+        return wrong(w, 22, rest + start);
     if (r.least == 0)
-        return 23;
+        return wrong(w, 23, rest + start + 1);
     if (length < r.least || length > r.greatest || (r.hole_from <= length && length <= r.hole_to))
-        return 22;
+        return wrong(w, 22, rest + start);
     if (left < start + length)
         return 20;
     *size = start + length;
@@ -299,12 +316,12 @@ halviruso_interpreted plain_interpret(const uint8_t *part, size_t part_length, c
     if (part_length > HALVIRUSO_PART)
         return refused(19, 0, state);
     uint8_t records[HALVIRUSO_AREA];
-    work w = {&descriptor, widths, records, state, (int32_t)state.at.i - 32768, (int32_t)state.at.b - 32768};
+    work w = {&descriptor, widths, records, state, (int32_t)state.at.i - 32768, (int32_t)state.at.b - 32768, NULL};
     uint32_t elements = 0;
     for (size_t at = 0, size = 0; at < part_length; at += size, elements++) {
         uint32_t code = element(&w, part + at, part_length - at, &size);
         if (code != 0)
-            return refused(code, at, state);
+            return refused(code, w.fault == NULL ? at : (size_t)(w.fault - part), state);
     }
     memcpy(area + state.used, records + state.used, w.s.used - state.used);
     w.s.at.i = (uint32_t)(w.i + 32768);
