@@ -46,12 +46,14 @@ enum {
     HALVIRUSO_BAD_NUMBER = 17,       /* part numbers are 1 to 65,535 */
     HALVIRUSO_GAP = 18,              /* a part before this one is missing */
     HALVIRUSO_LONG_PART = 19,        /* above 8,192 bytes */
-    HALVIRUSO_CUT = 20,              /* an element is cut by the part's end; 20 to 29: `first` is the element's offset */
-    HALVIRUSO_PREFIX = 21,           /* X'2B' is not followed by X'D3' */
-    HALVIRUSO_LENGTH = 22,           /* LENGTH under 2 or not the type's */
-    HALVIRUSO_TYPE = 23,             /* the type is unknown */
-    HALVIRUSO_VALUE = 24,            /* a value is out of range */
-    HALVIRUSO_FONT = 25,             /* font 04 to FE */
+    /* 20 to 29 point at a byte: `first` is its offset, always inside the part. It is the byte said below, else the first one of the element at fault:
+     * X'2B', in a chain LENGTH, of a free run the first character. */
+    HALVIRUSO_CUT = 20,              /* an element is cut by the part's end */
+    HALVIRUSO_PREFIX = 21,           /* X'2B' is not followed by X'D3': at the byte after X'2B' */
+    HALVIRUSO_LENGTH = 22,           /* LENGTH under 2 or not the type's: at LENGTH */
+    HALVIRUSO_TYPE = 23,             /* the type is unknown: at TYPE */
+    HALVIRUSO_VALUE = 24,            /* a value is out of range: at the first byte of the first parameter at fault; RPS without text: the count */
+    HALVIRUSO_FONT = 25,             /* font 04 to FE: at the font */
     HALVIRUSO_SUPPRESSION = 26,      /* BSU and ESU do not pair */
     HALVIRUSO_OUTSIDE = 27,          /* text or rule off the sheet */
     HALVIRUSO_POSITION = 28,         /* I or B past -32,768..32,767 */
@@ -109,8 +111,8 @@ typedef struct halviruso_table {
 
 typedef struct halviruso_answer {
     uint32_t code;
-    uint32_t first;
-    uint32_t second;
+    uint32_t first;  /* submit or interpret done: elements; 20 to 29: the offset of the byte at fault, so that part[first] can be looked at; else 0 */
+    uint32_t second; /* submit or interpret done: record bytes added; else 0 */
 } halviruso_answer;
 
 typedef struct halviruso_interpreted {
@@ -139,7 +141,7 @@ uint32_t halviruso_count(const halviruso_entry *table, size_t table_length);
 halviruso_interpreted halviruso_interpret(const uint8_t *part, size_t part_length, const uint16_t *widths, size_t widths_length, uint8_t *area,
                                           size_t area_length, halviruso_descriptor descriptor, halviruso_state state);
 
-/* Checks one part alone: a sheet of 12,240 by 15,840, every character 144 wide. 0, or 19 to 29. */
+/* Checks one part alone: a sheet of 12,240 by 15,840, every character 144 wide. The code and no more: 0, or 19 to 29. */
 uint32_t halviruso_check(const uint8_t *part, size_t part_length);
 
 #ifdef __cplusplus
