@@ -183,6 +183,64 @@ static void refusals_of_the_direct_call(void)
     CHECK(untouched());
 }
 
+#define BYTES(bytes) bytes, sizeof(bytes) - 1
+
+/* docs/HOSTS.md, "Finding the byte": parts, in a chain that is open already or not, with the code and the offset that each gets. */
+static const struct {
+    uint32_t chain;
+    const char *part;
+    size_t length;
+    uint32_t code, first;
+} FAULTS[] = {
+    {0, BYTES("\x2B"), HALVIRUSO_CUT, 0},
+    {0, BYTES("\xC1\x2B\xC1"), HALVIRUSO_PREFIX, 2},
+    {0, BYTES("\x2B\xD3\x01\xD8"), HALVIRUSO_LENGTH, 2},
+    {0, BYTES("\x2B\xD3\x02\x72"), HALVIRUSO_TYPE, 3},
+    {0, BYTES("\x2B\xD3\x04\xC6\x80\x00"), HALVIRUSO_VALUE, 4},
+    {0, BYTES("\xC1\xC2\x2B\xD3\x04\xC7\x00\x64\x05\xC2\x00\x0A\x02"), HALVIRUSO_VALUE, 12},
+    {0, BYTES("\xC1\xC2\x2B\xD3\x04\xC7\x00\x64\x05\xC2\x10\x00\x02"), HALVIRUSO_VALUE, 10},
+    {0, BYTES("\xC1\xC2\x2B\xD3\x04\xC7\x00\x64\x06\xC2\x00\x0A\x02"), HALVIRUSO_LENGTH, 8},
+    {0, BYTES("\x2B\xD3\x07\xE6\x00\x01\x00\x01\x01"), HALVIRUSO_VALUE, 6},
+    {0, BYTES("\x2B\xD3\x04\xEE\x00\x01"), HALVIRUSO_VALUE, 4},
+    {0, BYTES("\x2B\xD3\x03\xF0\x04"), HALVIRUSO_FONT, 4},
+    {0, BYTES("\xC1\x2B\xD3\x03\xF4\x05"), HALVIRUSO_SUPPRESSION, 1},
+    {0, BYTES("\x2B\xD3\x04\xC6\x7F\xFF\xC1"), HALVIRUSO_OUTSIDE, 6},
+    {0, BYTES("\x2B\xD3\x04\xC9\x80\x00\x04\xC8\x80\x00"), HALVIRUSO_POSITION, 6},
+    {0, BYTES("\x2B\xD3\x05\xC2\x00\x0A\x01\x2B\xD3\x05\xEE\x0F\xF1\xC1"), HALVIRUSO_NO_ROOM, 7}, /* 4,081 characters in one place */
+    {1, BYTES("\x02"), HALVIRUSO_CUT, 0},
+    {1, BYTES("\x2B\xD3\x02\xD8"), HALVIRUSO_LENGTH, 0},
+    {1, BYTES("\x02\x72"), HALVIRUSO_TYPE, 1},
+    {1, BYTES("\x06\xF6\x00\x00\x00\x00"), HALVIRUSO_VALUE, 4},
+    {1, BYTES("\x03\xF0\x04"), HALVIRUSO_FONT, 2},
+    {1, BYTES("\x03\xF4\x05"), HALVIRUSO_SUPPRESSION, 0},
+};
+
+/* Slot 0 has no chain open and awaits part 1, slot 1 has one and awaits part 2; a submit and a direct call point at the same byte. */
+static void refusals_point_at_a_byte(void)
+{
+    static const uint8_t begin_line[] = {0x2B, 0xD3, 0x02, 0xD9};
+    halviruso_state state = ELSEWHERE;
+
+    start();
+    CHECK(halviruso_open(lent.table.entries, HALVIRUSO_SLOTS, 0, 1, UNLIKE).code == HALVIRUSO_DONE);
+    CHECK(halviruso_open(lent.table.entries, HALVIRUSO_SLOTS, 1, 1, UNLIKE).code == HALVIRUSO_DONE);
+    CHECK(submit(1, 1, 1, begin_line, sizeof begin_line).code == HALVIRUSO_DONE);
+    kept = lent;
+    for (size_t at = 0; at < sizeof FAULTS / sizeof FAULTS[0]; at++) {
+        const uint8_t *part = (const uint8_t *)FAULTS[at].part;
+        size_t length = FAULTS[at].length;
+        unsigned before = wrong;
+
+        CHECK(is(submit(FAULTS[at].chain, 1, 1 + FAULTS[at].chain, part, length), FAULTS[at].code, FAULTS[at].first, 0));
+        state.chain = FAULTS[at].chain;
+        CHECK(is(halviruso_interpret(part, length, widths, HALVIRUSO_WIDTHS, lent.records, HALVIRUSO_AREA, UNLIKE, state).answer, FAULTS[at].code,
+                 FAULTS[at].first, 0));
+        if (wrong > before)
+            printf("  of part %zu, which gets %u at %u\n", at, (unsigned)FAULTS[at].code, (unsigned)FAULTS[at].first);
+    }
+    CHECK(untouched());
+}
+
 /* docs/HOSTS.md, "When a reply is late": accepted requests that come again change nothing, and what they are answered. */
 static void late_requests(void)
 {
@@ -230,6 +288,7 @@ int main(void)
     pointers();
     a_state_goes_in_and_comes_out();
     refusals_of_the_direct_call();
+    refusals_point_at_a_byte();
     late_requests();
     lengths_are_not_cut();
     printf("%u checks, %u wrong\n", checks, wrong);
