@@ -29,6 +29,9 @@ static const uint8_t HEADING[] = {0x2B, 0xD3, 0x04, 0xC7, 0x02, 0xD0, 0x04, 0xD2
 /* AMI 12,097 and a character: one unit past the sheet's edge. */
 static const uint8_t TOO_FAR[] = {0x2B, 0xD3, 0x04, 0xC6, 0x2F, 0x41, 0xC1};
 
+/* The text C1 C2, AMI 100, and in its chain SIA by 10 in direction 02, which there isn't. */
+static const uint8_t NO_DIRECTION[] = {0xC1, 0xC2, 0x2B, 0xD3, 0x04, 0xC7, 0x00, 0x64, 0x05, 0xC2, 0x00, 0x0A, 0x02};
+
 /* BLN and a character: the next line. */
 static const uint8_t NEXT_LINE[] = {0x2B, 0xD3, 0x02, 0xD8, 0xC1};
 
@@ -106,19 +109,28 @@ static void print_records(uint32_t slot)
     }
 }
 
+/* 20 to 29 point at the byte at fault. It is always one of the part's, so there is nothing to test. */
+static void show_byte(halviruso_answer answer, const uint8_t *part)
+{
+    if (answer.code >= HALVIRUSO_CUT && answer.code <= HALVIRUSO_NO_ROOM)
+        printf("  at byte %" PRIu32 ": X'%02X'\n", answer.first, part[answer.first]);
+}
+
 /* A refusal leaves all that was lent as it was, so nothing has to be undone: the part is mended and sent under the same number. */
-static void send_a_bad_part(void)
+static void send_a_bad_part(const char *what, const uint8_t *part, size_t length)
 {
     static halviruso_table table_before;
     static uint8_t records_before[HALVIRUSO_RECORDS];
+    halviruso_answer answer;
     int same;
 
     table_before = table;
     memcpy(records_before, records, sizeof records);
-    say("part 2, too far to the right", submit(2, TOO_FAR, sizeof TOO_FAR));
+    answer = submit(2, part, length);
+    say(what, answer);
+    show_byte(answer, part);
     same = memcmp(&table_before, &table, sizeof table) == 0 && memcmp(records_before, records, sizeof records) == 0;
     printf("memory: %s\n", same ? "unchanged" : "CHANGED");
-    say("part 2, mended", submit(2, NEXT_LINE, sizeof NEXT_LINE));
 }
 
 int main(void)
@@ -129,7 +141,9 @@ int main(void)
     /* No reply in time? The same request again is safe: 1 says that it was taken, and nothing is placed twice. */
     say("part 1 again", submit(1, HEADING, sizeof HEADING));
     print_records(SLOT);
-    send_a_bad_part();
+    send_a_bad_part("part 2, too far to the right", TOO_FAR, sizeof TOO_FAR);
+    send_a_bad_part("part 2, in a direction that there isn't", NO_DIRECTION, sizeof NO_DIRECTION);
+    say("part 2, mended", submit(2, NEXT_LINE, sizeof NEXT_LINE));
     print_records(SLOT);
     printf("open jobs: %" PRIu32 "\n", halviruso_count(table.entries, HALVIRUSO_SLOTS));
     say("close", halviruso_close(table.entries, HALVIRUSO_SLOTS, SLOT, KEY));
