@@ -32,25 +32,25 @@ impl Code {
     pub const GAP: Self = Self(18);
     /// The part is above 8,192 bytes.
     pub const LONG_PART: Self = Self(19);
-    /// An element is cut by the part's end.
+    /// An element is cut by the part's end: at its first byte.
     pub const CUT: Self = Self(20);
-    /// X'2B' is not followed by X'D3'.
+    /// X'2B' is not followed by X'D3': at the byte after X'2B'.
     pub const PREFIX: Self = Self(21);
-    /// LENGTH is under 2 or not the type's.
+    /// LENGTH is under 2 or not the type's: at LENGTH.
     pub const LENGTH: Self = Self(22);
-    /// The type is unknown.
+    /// The type is unknown: at TYPE.
     pub const TYPE: Self = Self(23);
-    /// A value is out of range.
+    /// A value is out of range: at the first byte of the first parameter at fault; RPS without text: the count.
     pub const VALUE: Self = Self(24);
-    /// The font is 04 to FE.
+    /// The font is 04 to FE: at the font.
     pub const FONT: Self = Self(25);
-    /// BSU and ESU do not pair.
+    /// BSU and ESU do not pair: at the element's first byte.
     pub const SUPPRESSION: Self = Self(26);
-    /// Text or a rule lies off the sheet.
+    /// Text or a rule lies off the sheet: at the element's first byte.
     pub const OUTSIDE: Self = Self(27);
-    /// I or B passes -32,768..32,767.
+    /// I or B passes -32,768..32,767: at the element's first byte.
     pub const POSITION: Self = Self(28);
-    /// The record area is full.
+    /// The record area is full: at the element's first byte.
     pub const NO_ROOM: Self = Self(29);
 
     /// The code's meaning in the hub's words, if it has one here.
@@ -99,9 +99,12 @@ impl fmt::Display for Code {
 pub struct Answer {
     /// What became of the request.
     pub code: Code,
-    /// Elements (a submit that is done), the offset of the element at fault (20 to 29), else 0.
+    /// Elements (a submit or an interpret that is done), the offset of the byte at fault (20 to 29), else 0.
+    ///
+    /// That byte is always inside the part, and each [`Code`] says which it is. An element's
+    /// first byte is X'2B', in a chain LENGTH, of a free run the first character.
     pub first: u32,
-    /// Record bytes added (a submit that is done), else 0.
+    /// Record bytes added (a submit or an interpret that is done), else 0.
     pub second: u32,
 }
 

@@ -48,6 +48,33 @@
 //! assert_eq!(hub.submit(&widths, 3, 7, 3, part).to_string(), "16, no such job; 0, 0");
 //! ```
 //!
+//! # Finding the byte at fault
+//!
+//! A refusal of 20 to 29 points at a byte, and each [`Code`] says at which. It is always
+//! inside the part, so it can be looked at without a test.
+//!
+//! ```
+//! # use halviruso::{first_state, interpret, Code, Descriptor, Hub, Point, AREA, WIDTHS};
+//! # let sheet = Descriptor { size: Point { i: 12_240, b: 15_840 }, ..Descriptor::default() };
+//! # let widths = [144; WIDTHS];
+//! # let mut hub = Hub::new();
+//! # assert_eq!(hub.open(3, 7, sheet).code, Code::DONE);
+//! // Two characters, AMI 100, and in its chain SIA by 10 in direction 02, which there isn't.
+//! let part = b"\xC1\xC2\x2B\xD3\x04\xC7\x00\x64\x05\xC2\x00\x0A\x02";
+//! let answer = hub.submit(&widths, 3, 7, 1, part);
+//! if (Code::CUT..=Code::NO_ROOM).contains(&answer.code) {
+//!     let byte = part[answer.first as usize];
+//!     let told = format!("{} at byte {}: X'{byte:02X}'", answer.code, answer.first);
+//!     assert_eq!(told, "24, value at byte 12: X'02'");
+//! }
+//! # assert_eq!(answer.code, Code::VALUE);
+//!
+//! // Asked directly, the interpreter points at the same byte.
+//! let start = first_state(sheet).unwrap();
+//! let direct = interpret(part, &widths, &mut [0; AREA], sheet, start);
+//! assert_eq!(direct.answer, answer);
+//! ```
+//!
 //! # Jobs with different width tables
 //!
 //! Each part is placed by the table that it is submitted with. The host remembers which

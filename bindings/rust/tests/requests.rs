@@ -96,6 +96,53 @@ fn requests_get_their_codes() {
     assert_eq!(hub.close(1, 1).code, Code::NO_JOB);
 }
 
+/// Parts with the code that each gets, the offset, and the byte that stands there.
+const FAULTS: [(&[u8], Code, u32, u8); 13] = [
+    (b"\xC1\x2B\xD3\x04\xC6\x7F", Code::CUT, 1, 0x2B),
+    (b"\xC1\x2B\xC1", Code::PREFIX, 2, 0xC1),
+    (b"\x2B\xD3\x01\xD8", Code::LENGTH, 2, 0x01),
+    (b"\x2B\xD3\x02\xD9\x03\xC6\x00", Code::LENGTH, 4, 0x03),
+    (b"\x2B\xD3\x02\x72", Code::TYPE, 3, 0x72),
+    (b"\x2B\xD3\x04\xC6\x80\x00", Code::VALUE, 4, 0x80),
+    (b"\x2B\xD3\x05\xC2\x00\x01\x02", Code::VALUE, 6, 0x02),
+    (b"\xC1\x2B\xD3\x07\xE6\x00\x01\xFF\xFF\x00", Code::VALUE, 7, 0xFF),
+    (b"\x2B\xD3\x02\xD9\x03\xF0\x04", Code::FONT, 6, 0x04),
+    (b"\xC1\x2B\xD3\x03\xF4\x05", Code::SUPPRESSION, 1, 0x2B),
+    (b"\x2B\xD3\x04\xC7\x2F\x41\x03\xDA\xC1", Code::OUTSIDE, 6, 0x03),
+    (b"\x2B\xD3\x04\xC8\x80\x00\x2B\xD3\x04\xC8\x80\x00", Code::POSITION, 6, 0x2B),
+    (b"\x2B\xD3\x05\xC2\x00\x90\x01\x2B\xD3\x05\xEE\x0F\xF1\xC1", Code::NO_ROOM, 7, 0x2B),
+];
+
+#[test]
+fn a_refusal_points_at_the_byte() {
+    let mut hub = Hub::new();
+    assert_eq!(hub.open(0, 1, sheet()).code, Code::DONE);
+    let start = first_state(sheet()).unwrap();
+    for (part, code, first, byte) in FAULTS {
+        let submitted = hub.submit(&TENTH, 0, 1, 1, part);
+        let direct = interpret(part, &TENTH, &mut [0; AREA], sheet(), start);
+        assert_eq!(submitted, answer(code, first, 0), "{part:02X?}");
+        assert_eq!((direct.answer, part[submitted.first as usize]), (submitted, byte));
+    }
+}
+
+/// In a chain that an earlier part has opened, LENGTH is an element's first byte.
+#[test]
+fn a_refusal_points_at_the_byte_in_a_chain_from_the_part_before() {
+    let mut hub = Hub::new();
+    assert_eq!(hub.open(0, 1, sheet()).code, Code::DONE);
+    assert_eq!(hub.submit(&TENTH, 0, 1, 1, b"\x2B\xD3\x02\xD9").code, Code::DONE);
+    let faults: [(&[u8], Code, u32); 4] = [
+        (b"\x2B\xD3\x02\xD8", Code::LENGTH, 0),
+        (b"\x02\x72", Code::TYPE, 1),
+        (b"\x06\xF6\x00\x00\x00\x00", Code::VALUE, 4),
+        (b"\x03\xF4\x05", Code::SUPPRESSION, 0),
+    ];
+    for (part, code, first) in faults {
+        assert_eq!(hub.submit(&TENTH, 0, 1, 2, part), answer(code, first, 0), "{part:02X?}");
+    }
+}
+
 #[test]
 fn widths_given_are_the_ones_used() {
     let mut widths = [0; WIDTHS];
