@@ -66,11 +66,20 @@ halviruso_entry an_entry(void) {
     return e;
 }
 
+enum { SEQUENCES = 19 };
+
 /* The nineteen types and one that there isn't, with a usual number of parameters. */
 static const struct {
     unsigned char type, parameters;
-} TYPES[] = {{0xC6, 2}, {0xD2, 2}, {0xC8, 2}, {0xD4, 2}, {0xD8, 0}, {0xC0, 2}, {0xD0, 2}, {0xC2, 3}, {0xC4, 2}, {0xF0, 1}, {0x74, 2}, {0xF6, 4},
-             {0xF2, 1}, {0xF4, 1}, {0xE4, 5}, {0xE6, 2}, {0xDA, 9}, {0xEE, 9}, {0xF8, 9}, {0x72, 2}};
+} TYPES[SEQUENCES + 1] = {{0xC6, 2}, {0xD2, 2}, {0xC8, 2}, {0xD4, 2}, {0xD8, 0}, {0xC0, 2}, {0xD0, 2}, {0xC2, 3}, {0xC4, 2}, {0xF0, 1},
+                          {0x74, 2}, {0xF6, 4}, {0xF2, 1}, {0xF4, 1}, {0xE4, 5}, {0xE6, 2}, {0xDA, 9}, {0xEE, 9}, {0xF8, 9}, {0x72, 2}};
+
+int is_type(unsigned char byte) {
+    size_t at = 0;
+    while (at < SEQUENCES && TYPES[at].type != (byte & 0xFE))
+        at++;
+    return at < SEQUENCES;
+}
 
 /* Parameters that often pass: small numbers, and the edges. */
 static void parameters(unsigned char *p, size_t count, unsigned char type) {

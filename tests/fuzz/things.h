@@ -10,6 +10,9 @@ halviruso_descriptor a_descriptor(void);
 halviruso_state a_state(const halviruso_descriptor *d);
 halviruso_entry an_entry(void);
 
+/* Whether this is the TYPE of one of the nineteen sequences, chained or not. */
+int is_type(unsigned char byte);
+
 /* Keeps a part of a file, to be changed later. */
 void keep_sample(const char *path);
 /* Writes a part of at most LONGEST bytes, for a state whose chain is open or not; gives its size. */

@@ -16,7 +16,7 @@ static const char *const NAMES[] = {"open", "submit", "close", "count", "interpr
 
 static lend table, records, area, widths, part;
 static enum side guarded;
-static int around_changes, within_changes, answer_changes; /* wrong on purpose */
+static int around_changes, within_changes, answer_changes, place_changes, place_leaves; /* wrong on purpose */
 
 /* What was lent, as it must be after the call. */
 static halviruso_entry old_table[MOST_ENTRIES];
@@ -57,6 +57,8 @@ void tries_start(enum side side, const char *wrong) {
     around_changes = strcmp(wrong, "around") == 0;
     within_changes = strcmp(wrong, "within") == 0;
     answer_changes = strcmp(wrong, "answer") == 0;
+    place_changes = strcmp(wrong, "place") == 0;
+    place_leaves = strcmp(wrong, "beyond") == 0;
     signal(SIGSEGV, on_fault);
     signal(SIGBUS, on_fault);
 }
@@ -103,13 +105,42 @@ static void lend_part(int chained) {
 
 #define BITS(from, to) (((2u << ((to) - (from))) - 1) << (from))
 
-/* The code is one of the entry's, and the two numbers are those that go with it. */
-static void expect_answer(halviruso_answer a, uint32_t codes) {
+/* Whether LENGTH and a TYPE that there is stand right before this byte of the part. */
+static int introduced(size_t first) {
+    return first >= 2 && old_part[first - 2] >= 2 && is_type(old_part[first - 1]);
+}
+
+/* Whether a refusal with this code can point at this byte of the part. */
+static int pointed_at(uint32_t code, size_t first) {
+    unsigned char byte = old_part[first];
+    switch (code) {
+    case HALVIRUSO_PREFIX: return first >= 1 && old_part[first - 1] == 0x2B && byte != 0xD3;
+    case HALVIRUSO_LENGTH: return first + 1 < part_bytes && (byte < 2 || is_type(old_part[first + 1]));
+    case HALVIRUSO_TYPE: return first >= 1 && old_part[first - 1] >= 2 && !is_type(byte);
+    case HALVIRUSO_VALUE: return introduced(first) || (first >= 4 && introduced(first - 2)); /* before a second parameter stand two bytes */
+    case HALVIRUSO_FONT: return introduced(first) && (old_part[first - 1] & 0xFE) == 0xF0 && byte > 3 && byte < 0xFF;
+    default: return 1;
+    }
+}
+
+/* The answer as it would be if what is wrong on purpose were so. */
+static halviruso_answer spoiled(halviruso_answer a) {
     a.code += (uint32_t)answer_changes;
+    if (place_changes && a.code >= 20 && a.first + 1 < part_bytes)
+        a.first++;
+    if (place_leaves && a.code >= 20)
+        a.first = (uint32_t)part_bytes;
+    return a;
+}
+
+/* The code is one of the entry's, and the two numbers are those that go with it. */
+static void expect_answer(halviruso_answer given, uint32_t codes) {
+    halviruso_answer a = spoiled(given);
     expect(a.code < 30 && (codes >> a.code & 1), "a code that isn't the entry's");
     expect(a.code == 0 || a.second == 0, "a second number with a refusal");
     expect(a.code == 0 || a.code >= 20 || a.first == 0, "a first number without an element");
-    expect(a.code < 20 || a.first < part_bytes, "an element beyond the part");
+    expect(a.code < 20 || a.first < part_bytes, "a refusal that points beyond the part");
+    expect(a.code < 20 || pointed_at(a.code, a.first), "a refusal that points at another byte");
     met[entry][a.code]++;
 }
 
