@@ -104,6 +104,7 @@ class Disagreeing(unittest.TestCase):
     def test_the_truth_is_no_disagreement(self):
         self.assertEqual(self.told(BYTES['example'], lambda answer, after, area: None), [])
         self.assertEqual(self.told(BYTES['outside'], lambda answer, after, area: None), [])
+        self.assertEqual(self.told(BYTES['value-second-chained'], lambda answer, after, area: None), [])
 
     def test_a_count(self):
         self.assertTrue(self.told(BYTES['example'], lambda answer, after, area: setattr(answer, 'first', 4)))
@@ -122,6 +123,18 @@ class Disagreeing(unittest.TestCase):
 
     def test_a_refusals_offset(self):
         self.assertTrue(self.told(BYTES['outside'], lambda answer, after, area: setattr(answer, 'first', 5)))
+
+    def test_a_refusals_offset_inside_its_element(self):
+        for first in (8, 11, 13):
+            said = self.told(BYTES['value-second-chained'], lambda answer, after, area: setattr(answer, 'first', first))
+            self.assertEqual(said, [f'element by element 24 at 12, as a whole 24 at {first}'])
+
+    def test_an_offset_outside_the_element(self):
+        """Of one element alone the answer is changed both times, so that the two agree."""
+        for first in (6, 4294967295):
+            said = self.told(BYTES['value'], lambda answer, after, area: setattr(answer, 'first', first))
+            self.assertEqual(said, [f'24 at {first}, outside the element, bytes 0 to 5'])
+        self.assertEqual(self.told(BYTES['value'], lambda answer, after, area: setattr(answer, 'first', 5)), [])
 
     def test_the_tool_says_so_and_ends_with_1(self):
         made = run_elements(paths.real('payroll-p01o01x01.part'), library=os.path.join(paths.HERE, 'liar.py'), run=f'{sys.executable} -B')

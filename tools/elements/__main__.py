@@ -15,7 +15,7 @@ from elements.loaded import Loaded
 from elements.report import dump, ending, refusal, row
 from elements.served import Served
 from elements.shapes import AREA, Descriptor, NoLibrary
-from elements.walk import disagreements, fault_place, walk
+from elements.walk import disagreements, walk
 from ptoca.command import Parser, run
 from ptoca.files import read, say
 from ptoca.letters import CODE_PAGES
@@ -68,13 +68,11 @@ def shown(library, given):
     rows = [head, *(row(step, given.codepage) for step in steps)]
     differences = disagreements(steps, start, (area, whole_area), whole, end)
     if differences:
-        told = 'THE LIBRARY DISAGREES WITH ITSELF: the part as a whole is answered otherwise than element by element'
+        told = 'THE LIBRARY DISAGREES WITH ITSELF: its answers to the part as a whole and element by element do not fit together'
         return 1, [*rows, told, *(f'  {difference}' for difference in differences)]
     if whole.code == 0:
         return 0, [*rows, ending(whole, end)]
-    last = steps[-1]
-    mark = last.element.at + fault_place(library, last, widths, area, descriptor)
-    return 0, [*rows, f'{refusal(whole)}; nothing is placed', *dump(part, mark, given.codepage)]
+    return 0, [*rows, f'{refusal(whole)}; nothing is placed', *dump(part, whole.first, given.codepage)]
 
 
 def main():

@@ -7,7 +7,6 @@ from typing import Callable
 class Parameter:
     size: int            # bytes; 0: all that are left
     said: Callable       # its bytes in words
-    harmless: bytes      # a value that is in range whatever else stands in the sequence
 
 
 @dataclass(frozen=True)
@@ -64,15 +63,15 @@ def ignored(raw):
     return f'{len(raw)} bytes ignored' if len(raw) != 1 else '1 byte ignored'
 
 
-def word(said, harmless=b'\0\0'):
-    return Parameter(2, said, harmless)
+def word(said):
+    return Parameter(2, said)
 
 
-def byte(said, harmless=b'\0'):
-    return Parameter(1, said, harmless)
+def byte(said):
+    return Parameter(1, said)
 
 
-RULE = (word(plain('length')), Parameter(3, width, b'\0\0\0'))
+RULE = (word(plain('length')), Parameter(3, width))
 SEQUENCES = {
     0xC6: Sequence('AMI', 'Absolute Move Inline', (word(plain('to')),)),
     0xD2: Sequence('AMB', 'Absolute Move Baseline', (word(plain('to')),)),
@@ -85,14 +84,14 @@ SEQUENCES = {
     0xC4: Sequence('SVI', 'Set Variable Space Character Increment', (word(defaulted('space', 'absent')),)),
     0xF0: Sequence('SCFL', 'Set Coded Font Local', (byte(defaulted('font')),)),
     0x74: Sequence('STC', 'Set Text Color', (word(hexadecimal('colour')), byte(ignored))),
-    0xF6: Sequence('STO', 'Set Text Orientation', (word(hexadecimal('I-axis')), word(hexadecimal('B-axis'), b'\x2D\0'))),
-    0xF2: Sequence('BSU', 'Begin Suppression', (byte(plain('id'), b'\1'),)),
-    0xF4: Sequence('ESU', 'End Suppression', (byte(plain('id'), b'\1'),)),
+    0xF6: Sequence('STO', 'Set Text Orientation', (word(hexadecimal('I-axis')), word(hexadecimal('B-axis')))),
+    0xF2: Sequence('BSU', 'Begin Suppression', (byte(plain('id')),)),
+    0xF4: Sequence('ESU', 'End Suppression', (byte(plain('id')),)),
     0xE4: Sequence('DIR', 'Draw I-axis Rule', RULE),
     0xE6: Sequence('DBR', 'Draw B-axis Rule', RULE),
     0xDA: Sequence('TRN', 'Transparent Data', text=0),
     0xEE: Sequence('RPS', 'Repeat String', (word(plain('count')),), text=2),
-    0xF8: Sequence('NOP', 'No Operation', (Parameter(0, ignored, b''),)),
+    0xF8: Sequence('NOP', 'No Operation', (Parameter(0, ignored),)),
 }
 UNKNOWN = Sequence('?', 'a type that the hub does not take')
 

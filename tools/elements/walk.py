@@ -3,8 +3,6 @@ from dataclasses import dataclass
 
 from ptoca.cutting import Element, element_at
 
-from elements.sequences import sequence_of, split
-
 
 @dataclass(frozen=True)
 class Step:
@@ -29,13 +27,19 @@ def walk(library, part, widths, area, descriptor, state):
     return steps
 
 
+def misfits(step, whole):
+    """Where the refusal of an element and that of the part as a whole differ, code or offset; and a byte that is none of the element's."""
+    element = step.element
+    here, there = (step.answer.code, element.at + step.answer.first), (whole.code, whole.first)
+    if here != there:
+        return [f'element by element {here[0]} at {here[1]}, as a whole {there[0]} at {there[1]}']
+    return [] if here[1] < element.end() else [f'{here[0]} at {here[1]}, outside the element, {element.place()}']
+
+
 def disagreements(steps, start, areas, whole, end):
-    """Where the elements one by one and the part as a whole differ: count, record bytes, end state, or code and offset."""
-    refused = steps[-1] if steps and steps[-1].answer.code != 0 else None
-    if refused is not None:
-        here = (refused.answer.code, refused.element.at + refused.answer.first)
-        there = (whole.code, whole.first)
-        return [] if here == there else [f'element by element {here[0]} at {here[1]}, as a whole {there[0]} at {there[1]}']
+    """Where the elements one by one and the part as a whole differ: count, record bytes, end state, or the refusal."""
+    if steps and steps[-1].answer.code != 0:
+        return misfits(steps[-1], whole)
     last = steps[-1].after if steps else start
     told = {
         'code': (0, whole.code),
@@ -46,29 +50,3 @@ def disagreements(steps, start, areas, whole, end):
         'area': tuple(area.hex() for area in areas),
     }
     return [f'{name}: element by element {here}, as a whole {there}' for name, (here, there) in told.items() if here != there]
-
-
-def fault_place(library, step, widths, area, descriptor):
-    """The offset, in the element, of the byte at fault: the library's own where it gives one, else as far as the code tells."""
-    element, code = step.element, step.answer.code
-    if step.answer.first > 0:
-        return step.answer.first
-    if code in (21, 22, 23):
-        return {21: 1, 22: element.intro, 23: element.intro + 1}[code]
-    if code in (24, 25):
-        return element.intro + 2 + parameter_at_fault(library, step, widths, area, descriptor)
-    return 0
-
-
-def parameter_at_fault(library, step, widths, area, descriptor):
-    """The first parameter that is refused still when harmless values stand behind it: the library is asked each time."""
-    element = step.element
-    parameters = split(sequence_of(element), element.parameters())
-    for k, (_, at, _) in enumerate(parameters):
-        probe = b''.join(raw if n <= k else parameter.harmless for n, (parameter, _, raw) in enumerate(parameters))
-        rest = element.parameters()[len(probe):]
-        raw = element.raw[:element.intro + 2] + probe + rest
-        answer, _ = library.interpret(raw, widths, bytearray(area), descriptor, step.before)
-        if answer.code == step.answer.code:
-            return at
-    return 0

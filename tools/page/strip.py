@@ -59,8 +59,7 @@ def heading(shown, element):
     where = f' at byte {offset}' if code >= PLACED else ''
     said = [('refusal', f'Refused with {code}{where}: {reason(code)}')]
     if element is not None:
-        place = f'byte {element.at}' if len(element.raw) == 1 else f'bytes {element.at} to {element.end() - 1}'
-        said.append(('fine', f'Shaded: the element, {place}. Red: the byte that the refusal names.'))
+        said.append(('fine', f'Shaded: the element, {element.place()}. Red: the byte that the refusal names.'))
     return said
 
 

@@ -15,6 +15,10 @@ class Element:
     def end(self):
         return self.at + len(self.raw)
 
+    def place(self):
+        """Its bytes by their offsets, in words."""
+        return f'byte {self.at}' if len(self.raw) == 1 else f'bytes {self.at} to {self.end() - 1}'
+
     def type(self):
         """The byte at TYPE's place; None for a free run, and where no whole introducer stands."""
         if self.intro is None or len(self.raw) < self.intro + 2 or self.raw[:self.intro] != INTRODUCER[:self.intro]:
