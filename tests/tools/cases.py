@@ -10,13 +10,19 @@ REAL = {
     'marks48-second': ('marks48-p01o01x02.pad.part', EARLIER),
     'marks48-second-alone': ('marks48-p01o01x02.pad.part', ()),
 }
-# the last line is told here for these
+# the last lines are told here for these
 LAST = {
     'c-table-p01o01x01.part': ((), 'accepted: 522 elements, 3,090 record bytes; ends at I 9648, B 5870'),
     'c-letter-p01o01x01.part': ((), 'accepted: 114 elements, 2,040 record bytes; ends at I 7272, B 10425'),
     'c-boxes-p01o01x01.part': ((), 'accepted: 401 elements, 3,027 record bytes; ends at I 3024, B 4915'),
     'marks48-p01o01x01.pad.part': ((), 'accepted: 1,715 elements, 3,685 record bytes; ends at I 3116, B 4889, chain open'),
-    'statement-p01o01x01.part': (STATEMENT, '     3744  C7 40 E2 D7 C1 D9 D2 D6 D5 E3 D6 04 D3 18 09 04  G SPARKONTO.L...'),
+    'statement-p01o01x01.part': (
+        STATEMENT,
+        '     3728  C7 0D 11 18 DB C4 C1 E4 C5 D9 C1 E4 C6 E3 D9 C1  G...ûDAUERAUFTRA',
+        '                    ^^ -- -- -- -- -- -- -- -- -- -- -- --',
+        '     3744  C7 40 E2 D7 C1 D9 D2 D6 D5 E3 D6 04 D3 18 09 04  G SPARKONTO.L...',
+        '           -- -- -- -- -- -- -- -- -- -- --',
+    ),
 }
 BYTES = {
     'empty': '',

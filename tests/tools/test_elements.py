@@ -57,16 +57,16 @@ for case in [*REAL, *BYTES]:
     setattr(Standin, 'test_' + case.replace('-', '_'), against_stored(case, STANDIN))
 
 
-def last_line(name, words, expected):
+def last_lines(name, words, expected):
     def test(self):
         made = run_elements(paths.real(name), *words)
         self.assertEqual((made.returncode, made.stderr), (0, ''))
-        self.assertEqual(made.stdout.splitlines()[-1], expected)
+        self.assertEqual(made.stdout.splitlines()[-len(expected):], expected)
     return test
 
 
-for file_name, (options, line) in LAST.items():
-    setattr(Expected, 'test_end_of_' + file_name.split('-p')[0].replace('-', '_'), last_line(file_name, options, line))
+for file_name, (options, *ending) in LAST.items():
+    setattr(Expected, 'test_end_of_' + file_name.split('-p')[0].replace('-', '_'), last_lines(file_name, options, ending))
 
 
 class Lying:

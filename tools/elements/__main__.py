@@ -1,7 +1,8 @@
 """python3 tools/elements PART [--after PART]... [--widths FILE] [--codepage 500|1252] [--library FILE] [--run COMMAND]
 
 Prints a part as its elements, one a line: offset, TYPE, PTOCA's name, the values, and what the element placed or moved. What
-is accepted, placed or refused is what the library answers, and the part as a whole must get the same answer.
+is accepted, placed or refused is what the library answers, and the part as a whole must get the same answer. Below a refusal stand
+the bytes around it: ^^ under the one that it names, -- under the others of its element, .. where more of them follow.
 The library is a shared one (.so), or a host program of it, as `make elements` builds; `--run` is the emulator for that, if it needs one.
 Exit status 0: shown, a refused part too. 1: shown, and the library disagrees with itself. 2: it can't be done; one line on
 standard error says why, and nothing is printed."""
@@ -72,7 +73,7 @@ def shown(library, given):
         return 1, [*rows, told, *(f'  {difference}' for difference in differences)]
     if whole.code == 0:
         return 0, [*rows, ending(whole, end)]
-    return 0, [*rows, f'{refusal(whole)}; nothing is placed', *dump(part, whole.first, given.codepage)]
+    return 0, [*rows, f'{refusal(whole)}; nothing is placed', *dump(part, whole.first, steps[-1].element, given.codepage)]
 
 
 def main():

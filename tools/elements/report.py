@@ -1,4 +1,4 @@
-"""The elements in words, one a line; and the bytes around a refusal with a mark."""
+"""The elements in words, one a line; and the bytes around a refusal, the one that it names and its element underlined."""
 from ptoca.letters import letter, line
 from ptoca.refusals import reason
 from ptoca.words import plural
@@ -89,16 +89,24 @@ def row(step, code_page):
     return f'{element.at:>5}  {head} {values(element, code_page):<31}  {effect(step)}'
 
 
-def dump(part, mark, code_page):
-    """The lines of bytes around a place, with a caret below it."""
+def underline(start, mark, element):
+    """Below a line of bytes: carets at the mark, hyphens at the other bytes of its element; no line where it has none of them there."""
+    own = range(element.at, element.end())
+    signs = ' '.join('^^' if at == mark else '--' if at in own else '  ' for at in range(start, start + ROW)).rstrip()
+    return [' ' * 11 + signs] if signs else []
+
+
+def dump(part, mark, element, code_page):
+    """The lines of bytes around a mark, which is underlined with its element; two dots where that goes on below them."""
     lines, middle = [], mark // ROW * ROW
-    for start in range(max(middle - ROW, 0), min(middle + 2 * ROW, len(part)), ROW):
+    past = min(middle + 2 * ROW, len(part))
+    for start in range(max(middle - ROW, 0), past, ROW):
         data = part[start:start + ROW]
         pairs = ' '.join(f'{byte:02X}' for byte in data)
         letters = ''.join(letter(byte, code_page) or '.' for byte in data)
-        lines.append(f'{start:>9}  {pairs:<47}  {letters}')
-        if start == middle:
-            lines.append(' ' * (11 + 3 * (mark - start)) + '^^')
+        lines += [f'{start:>9}  {pairs:<47}  {letters}', *underline(start, mark, element)]
+    if element.end() > past:
+        lines[-1] += ' ..'
     return lines
 
 
