@@ -10,7 +10,6 @@ import unittest
 import paths
 from cases import BYTES, LAST, REAL
 from elements.loaded import Loaded
-from elements.sequences import SEQUENCES
 from elements.served import Served
 from elements.shapes import AREA, Answer, Descriptor, Entry, Interpreted, NoLibrary, State
 from elements.walk import disagreements, walk
@@ -149,9 +148,6 @@ class Pieces(unittest.TestCase):
     def test_layouts_are_those_of_the_header(self):
         from ctypes import sizeof
         self.assertEqual([sizeof(kind) for kind in (Descriptor, State, Entry, Answer, Interpreted)], [48, 48, 108, 12, 60])
-
-    def test_nineteen_sequences(self):
-        self.assertEqual((len(SEQUENCES), all(kind % 2 == 0 for kind in SEQUENCES)), (19, True))
 
     def test_a_missing_library_is_an_error(self):
         self.assertRaises(NoLibrary, Loaded, os.path.join(paths.HERE, 'none.so'))

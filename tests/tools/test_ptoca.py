@@ -1,4 +1,4 @@
-"""Letters of the two code pages, files of widths, and where elements begin and end."""
+"""Letters of the two code pages, files of widths, where elements begin and end, and the control sequences."""
 import os
 import tempfile
 import unittest
@@ -6,6 +6,7 @@ import unittest
 import paths
 from ptoca import letters, refusals, widths
 from ptoca.cutting import element_at, element_with
+from ptoca.sequences import SEQUENCES
 from ptoca.words import Wrong
 
 
@@ -81,6 +82,11 @@ class Cutting(unittest.TestCase):
         for part in ('2B', '2BD3', '2BD304', '2BD304C6', '2BD304C600'):
             self.assertEqual(self.cut(part), [part])
         self.assertEqual(self.cut('2BD302D904'), ['2BD302D9', '04'])
+
+
+class Sequences(unittest.TestCase):
+    def test_nineteen_sequences(self):
+        self.assertEqual((len(SEQUENCES), all(kind % 2 == 0 for kind in SEQUENCES)), (19, True))
 
 
 class Refusals(unittest.TestCase):

@@ -1,10 +1,10 @@
 """The elements in words, one a line; and the bytes around a refusal, the one that it names and its element underlined."""
 from ptoca.letters import letter, line
 from ptoca.refusals import reason
+from ptoca.sequences import sequence_of, split
 from ptoca.words import plural
 
 from elements.shapes import ABSENT
-from elements.sequences import sequence_of, split
 
 SHOWN = 40   # characters of a text that are printed
 ROW = 16     # bytes to a line of the dump
