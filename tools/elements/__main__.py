@@ -73,7 +73,8 @@ def shown(library, given):
         return 1, [*rows, told, *(f'  {difference}' for difference in differences)]
     if whole.code == 0:
         return 0, [*rows, ending(whole, end)]
-    return 0, [*rows, f'{refusal(whole)}; nothing is placed', *dump(part, whole.first, steps[-1].element, given.codepage)]
+    element = steps[-1].element
+    return 0, [*rows, f'{refusal(whole, element)}; nothing is placed', *dump(part, whole.first, element, given.codepage)]
 
 
 def main():

@@ -1,7 +1,7 @@
 """The elements in words, one a line; and the bytes around a refusal, the one that it names and its element underlined."""
 from ptoca.letters import letter, line
-from ptoca.refusals import reason
-from ptoca.sequences import sequence_of, split
+from ptoca.refusals import PLACED, reason
+from ptoca.sequences import parameter_at, sequence_of, split
 from ptoca.words import plural
 
 from elements.shapes import ABSENT
@@ -71,10 +71,11 @@ def effect(step):
     return '; '.join(did) if did else 'nothing changes'
 
 
-def refusal(answer):
-    """The code and its reason; codes from 20 on have a place."""
-    place = f' at {answer.first}' if answer.code >= 20 else ''
-    return f'refused with {answer.code}{place}: {reason(answer.code)}'
+def refusal(answer, element=None):
+    """The code, its place if it has one, and its reason; with the element at fault, the parameter that begins at that place."""
+    place = f' at {answer.first}' if answer.code >= PLACED else ''
+    parameter = element and parameter_at(element, answer.first)
+    return f'refused with {answer.code}{place}: {reason(answer.code)}' + (f' ({parameter})' if parameter else '')
 
 
 def row(step, code_page):

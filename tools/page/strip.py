@@ -1,7 +1,7 @@
 """The strip of a refused part: the reason in words, and the part's bytes around the element at fault."""
 from ptoca.cutting import element_with
 from ptoca.letters import letter
-from ptoca.refusals import reason
+from ptoca.refusals import PLACED, reason
 
 from page import svg
 from page.fitting import block
@@ -10,7 +10,6 @@ ROW = 16              # bytes to a line
 BEFORE, AFTER = 1, 2  # lines around the byte that the refusal names
 MOST = 4              # lines before and after it at most, to show the element whole
 LEFT, INSET, LINE = 1200, 300, 600
-PLACED = 20           # codes from here on name a byte
 
 
 def element_of(shown, part):

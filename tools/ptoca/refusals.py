@@ -1,5 +1,6 @@
 """The codes that one part can be refused with, in words."""
 
+PLACED = 20  # codes from here on name a byte of the part
 REASONS = {
     10: 'a lent length is wrong',
     12: 'the starting state is out of range',

@@ -117,3 +117,13 @@ def split(sequence, raw):
         found.append((parameter, at, raw[at:at + size]))
         at += size
     return found
+
+
+def parameter_at(element, offset):
+    """The parameter that begins at this offset of the part, as `SIA direction`; None where none does."""
+    sequence = sequence_of(element)
+    if sequence is None:
+        return None
+    names = {at: parameter.name for parameter, at, _ in split(sequence, element.parameters())}
+    name = names.get(offset - element.at - element.intro - 2)
+    return None if name is None else f'{sequence.mnemonic} {name}'
