@@ -171,7 +171,8 @@ class Fitting(unittest.TestCase):
 
     def test_refused_parts(self):
         for code in range(10, 31):
-            self.assert_fits(of_text(f'PART 7\nREFUSED {code} 6\n', part=PART))
+            for offset in (0, 4, 6, GREATEST):
+                self.assert_fits(of_text(f'PART 7\nREFUSED {code} {offset}\n', part=PART))
 
     def test_lines_are_no_wider_than_asked_and_lose_nothing(self):
         for text in ('one', 'one two three four five', 'm' * 300, 'a ' + 'W' * 100 + ' b', '印刷' * 40):

@@ -1,7 +1,9 @@
 """The strip of a refused part: the reason in words, and the part's bytes around the element at fault."""
 from ptoca.cutting import element_with
 from ptoca.letters import letter
-from ptoca.refusals import PLACED, reason
+from ptoca.refusals import PLACED, WITHIN, reason
+from ptoca.sequences import parameter_at
+from ptoca.words import plural
 
 from page import svg
 from page.fitting import block
@@ -10,6 +12,7 @@ ROW = 16              # bytes to a line
 BEFORE, AFTER = 1, 2  # lines around the byte that the refusal names
 MOST = 4              # lines before and after it at most, to show the element whole
 LEFT, INSET, LINE = 1200, 300, 600
+INTRODUCER = ("X'2B'", "the place of X'D3'", 'LENGTH', 'TYPE')  # byte by byte; in a chain it has the last two
 
 
 def element_of(shown, part):
@@ -52,13 +55,29 @@ def row(part, start, y, step, shown, element, code_page):
     return parts
 
 
+def named(shown, element):
+    """What the byte that the refusal names is to its element."""
+    code, offset = shown.refused
+    if code in WITHIN and element.intro is not None:
+        at = offset - element.at + 2 - element.intro
+        if at < len(INTRODUCER):
+            return INTRODUCER[at]
+        if parameter := parameter_at(element, offset):
+            return f'the first byte of {parameter}'
+    elif offset == element.at:
+        return 'its first byte'
+    return 'the byte that the refusal names'
+
+
 def heading(shown, element):
-    """The refusal, and what is marked on the bytes."""
+    """The refusal, and what is marked on the bytes; or that the part has no such byte."""
     code, offset = shown.refused
     where = f' at byte {offset}' if code >= PLACED else ''
     said = [('refusal', f'Refused with {code}{where}: {reason(code)}')]
     if element is not None:
-        said.append(('fine', f'Shaded: the element, {element.place()}. Red: the byte that the refusal names.'))
+        said.append(('fine', f'Shaded: the element, {element.place()}. Red: {named(shown, element)}.'))
+    elif code >= PLACED and offset >= shown.part:
+        said.append(('fine', f'There is no such byte: the part has {plural(shown.part, "byte")}.'))
     return said
 
 

@@ -1,6 +1,7 @@
 """The codes that one part can be refused with, in words."""
 
-PLACED = 20  # codes from here on name a byte of the part
+PLACED = 20             # codes from here on name a byte of the part
+WITHIN = range(21, 26)  # these name a byte within the element at fault, the others its first one
 REASONS = {
     10: 'a lent length is wrong',
     12: 'the starting state is out of range',
