@@ -9,6 +9,7 @@ use lib.ListN.{getD, replicate}
 use lib.Dec.{leb, eqb}
 use borrow.Author.Tests.{leb-true, eqb-true, eqb-false}
 use Rattle.part.specs.Numbers.{if_then_else_}
+use Rattle.part.specs.Ranges.{hold, descriptorFields}
 use Rattle.part.specs.Records.{allBytes, spliced}
 use Rattle.part.specs.declared.shapes.Descriptor.{Descriptor}
 use Rattle.part.proofs.Checks.{first-of, second-of}
@@ -58,11 +59,18 @@ awaits key number e t =
       most = leb-true number 65535 (second-of (leb 1 number) (leb number 65535) (t .good));
     }
 
+-- a job was opened with a descriptor in range
+abbrev pub Described : Account → Type 0
+Described unused = Unit
+Described (running j) = hold (descriptorFields (j .descriptor)) ≡ true
+Described (ended j) = hold (descriptorFields (j .descriptor)) ≡ true
+
 module _ (widths : List ℕ) where
   -- what holds of a slot at any time
   pub record Sound (a : Account) (h : Hub) (slot : ℕ) : Type 0 where
     pub agrees : Agrees widths a (entryOf h slot) (areaOf (h .records) slot)
     pub undamaged : damaged (entryOf h slot) ≡ false
+    pub described : Described a
 
   -- ---- a request on the slot itself
 
@@ -74,6 +82,7 @@ module _ (widths : List ℕ) where
         record {
           agrees = rw (now, passed .0) (record { inOrder = refl; result = record { state = firstState d; items = [] }; byRules = refl; itsEntry = refl; itsUsed = refl; itsRecords = refl });
           undamaged = rw (now, passed .0) (opened-undamaged key d (passed .1 .ranges));
+          described = passed .1 .ranges;
         }
 
     close-sound : (a : Account) → Here widths h (Close slot key) → Passed widths h (Close slot key) → Sound a h slot → Sound (noted a (Close slot key)) (step widths h (Close slot key) .after) slot
@@ -85,6 +94,7 @@ module _ (widths : List ℕ) where
         record {
           agrees = rw (now, x .leaves, passed .0) (record { inOrder = k .inOrder; result = k .result; byRules = k .byRules; itsEntry = ap closed (k .itsEntry); itsUsed = k .itsUsed; itsRecords = k .itsRecords });
           undamaged = rw (now, passed .0);
+          described = s .described;
         }
     close-sound (ended j) x passed s = absurd (shut-under (entryOf h slot) key (rw (s .agrees .itsEntry)) (passed .1 .under))
 
@@ -108,6 +118,7 @@ module _ (widths : List ℕ) where
         record {
           agrees = rw (now, x .leaves, passed .0, passed .2, taken .itsState, taken .itsArea, own) (part-kept widths j e area number part f next taken (s .agrees));
           undamaged = rw (now, passed .0, passed .2, taken .itsState) (gone-on-undamaged e (f .state) (in-range e (tested .is) (tested .undamaged)) (taken .kept) (omega arith));
+          described = s .described;
         }
 
   own-sound : (a : Account) (h : Hub) (r : Request) → Here widths h r → Passed widths h r → Sound a h (slotOf r) → Sound (noted a r) (step widths h r .after) (slotOf r)
@@ -121,6 +132,7 @@ module _ (widths : List ℕ) where
   other-sound a h r slot n s = record {
     agrees = rw (other-entry widths h r slot n, other-area widths h r slot n) (s .agrees);
     undamaged = rw (other-entry widths h r slot n) (s .undamaged);
+    described = s .described;
   }
 
   -- ---- any request, and any number of them
@@ -145,10 +157,13 @@ module _ (widths : List ℕ) where
   steps-sound a h (r ∷ rs) slot s = steps-sound (after slot a h r) (step widths h r .after) rs slot (step-sound a h r slot s)
 
   fresh-sound : (h : Hub) (slot : ℕ) → Fresh h → Sound unused h slot
-  fresh-sound h slot f = record { agrees = (f .allClosed slot, f .noKeys slot); undamaged = rw (f .allClosed slot) }
+  fresh-sound h slot f = record { agrees = (f .allClosed slot, f .noKeys slot); undamaged = rw (f .allClosed slot); described = tt }
+
+pub sound : (widths : List ℕ) (h : Hub) → Fresh h → (rs : List Request) (slot : ℕ) → Sound widths (account widths slot h unused rs) (steps widths h rs) slot
+sound widths h f rs slot = steps-sound widths unused h rs slot (fresh-sound widths h slot f)
 
 pub holds : Holds
-holds widths h f rs slot = let s = steps-sound widths unused h rs slot (fresh-sound widths h slot f) in (s .agrees, s .undamaged)
+holds widths h f rs slot = let s = sound widths h f rs slot in (s .agrees, s .undamaged)
 
 -- ---- and there is a fresh table
 

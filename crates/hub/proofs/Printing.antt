@@ -1,31 +1,31 @@
--- What the rules give is whole records, one behind the other, each on the sheet: each begins with its own length and its kind. So is what a job holds.
+-- What the rules give is whole records, one behind the other, none of them empty, each on the sheet: each begins with its own length and its kind. So is what a job holds.
 -- Assumes nothing.
 use Prim.Native.Nat.{ℕ, zero, suc, _+_, _-_, _*_, _/_, _%_, _≤_, _<_}
-use mathlib.Core.Path.{_≡_, refl, _∙_, ap}
+use mathlib.Core.Path.{_≡_, refl, _∙_}
 use mathlib.Core.Bool.{Bool, true, false, _&&_}
 use mathlib.Core.List.{List, [], _∷_, _++_, map}
 use native.Mathlib.Omega.{arith}
-use borrow.Author.Tests.{le-leb}
+use borrow.Author.Tests.{le-leb, ne-eqb}
 use lib.ListN.{length, take, drop, getD, length-append, length-take}
 use lib.Dec.{leb, eqb}
 use lib.Seq.{drop-append-seam}
 use Rattle.part.specs.Numbers.{if_then_else_}
 use Rattle.part.specs.Reading.{cut}
-use Rattle.part.specs.Records.{Item, textItem, ruleItem, bytesOf, allBytes, littleAt, isWhole, boundariesFrom, boundaries}
+use Rattle.part.specs.Records.{Item, textItem, ruleItem, bytesOf, allBytes, littleAt, isWhole, isEmpty, boundariesFrom, boundaries}
 use Rattle.part.specs.Place.{place}
 use Rattle.part.specs.Part.{elementsBy}
-use Rattle.part.specs.Drawing.{allOnSheet}
+use Rattle.part.specs.Ranges.{hold, descriptorFields}
 use Rattle.part.specs.declared.shapes.Descriptor.{Descriptor}
 use Rattle.part.specs.declared.shapes.State.{State}
 use Rattle.part.proofs.Checks.{Gives, value, gives-then, value-of}
-use Rattle.part.proofs.Inside.{OnSheet, all-join, elements-on}
+use Rattle.part.proofs.Every.{Every, none, _also_, every-so, every-join}
+use Rattle.part.proofs.Inside.{Filled, Drawable, Shown, rule-low, all-on, elements-on}
 use Rattle.hub.specs.Entries.{firstState}
 use Rattle.hub.specs.Requests.{areaOf, Hub, Request, Open, Submit, Close, slotOf, step, steps}
 use Rattle.hub.specs.Accounts.{Job, Account, unused, running, ended, noted, partsFrom}
 use Rattle.hub.specs.Histories.{entryOf, account}
-use Rattle.hub.specs.Promises.{Fresh, Kept, Agrees, WholeRecords, Printable, printed, Prints, OnItsSheet, OnTheSheet}
-use Rattle.hub.specs.declared.jobs.Entry.{Entry}
-use Rattle.hub.proofs.Holding.{holds}
+use Rattle.hub.specs.Promises.{Fresh, Kept, Agrees, WholeRecords, Printable, printed, Prints, OnTheSheet}
+use Rattle.hub.proofs.Holding.{Described, sound}
 
 abbrev NoneTaken : Account → Type 0
 NoneTaken unused = Unit
@@ -59,12 +59,24 @@ begins (ruleItem r) behind h =
 rest-behind : (x : Item) (behind : List ℕ) → littleAt (bytesOf x ++ behind) 0 ≡ length (bytesOf x) → drop (littleAt (bytesOf x ++ behind) 0) (bytesOf x ++ behind) ≡ behind
 rest-behind x behind is = rw is (drop-append-seam (bytesOf x) behind)
 
-all-whole : (xs : List Item) → length (allBytes xs) < 65536 → WholeRecords (length xs) (allBytes xs)
-all-whole [] h = refl
-all-whole (x ∷ xs) h =
+-- neither empty by its numbers nor by their bytes: a rule's length and width are read back as they are
+abbrev Solid : Item → Type 0
+Solid (textItem t) = Filled (textItem t)
+Solid (ruleItem r) = Filled (ruleItem r) × (r .len < 65536) × (r .width < 65536)
+
+not-empty : (x : Item) (behind : List ℕ) → length (bytesOf x) < 65536 → Solid x → isEmpty (bytesOf x ++ behind) ≡ false
+unfolding bytesOf
+not-empty (textItem t) behind h solid =
+    let is = begins (textItem t) behind h .length-is in
+    ne-eqb (littleAt (bytesOf (textItem t) ++ behind) 0) 16 (omega arith)
+not-empty (ruleItem r) behind h solid = rw (read-back (r .len) (solid .1), read-back (r .width) (solid .2), solid .0)
+
+all-whole : (xs : List Item) → length (allBytes xs) < 65536 → Every Solid xs → WholeRecords (length xs) (allBytes xs)
+all-whole [] h none = refl
+all-whole (x ∷ xs) h (solid also others) =
     let l = length-append (bytesOf x) (allBytes xs) in
     let b = begins x (allBytes xs) (omega arith) in
-    (b .whole, rw (rest-behind x (allBytes xs) (b .length-is)) (all-whole xs (omega arith)))
+    (b .whole, not-empty x (allBytes xs) (omega arith) solid, rw (rest-behind x (allBytes xs) (b .length-is)) (all-whole xs (omega arith) others))
 
 -- a step over the first of them: it ends within the bytes, at the second
 record StepsOn (x : Item) (xs : List Item) : Type 0 where
@@ -112,9 +124,9 @@ as-many (x ∷ xs) h =
     let m = as-many xs (omega arith) in
     omega arith
 
-items-print : (xs : List Item) → length (allBytes xs) < 65536 → Printable (allBytes xs)
+items-print : (xs : List Item) → length (allBytes xs) < 65536 → Every Solid xs → Printable (allBytes xs)
 unfolding boundaries
-items-print xs h = record { count = length xs; records = all-whole xs h; met = all-met (length (allBytes xs)) 0 xs h (as-many xs h); end = all-end (length (allBytes xs)) 0 xs h (as-many xs h) ∙ (omega arith) }
+items-print xs h solid = record { count = length xs; records = all-whole xs h solid; met = all-met (length (allBytes xs)) 0 xs h (as-many xs h); end = all-end (length (allBytes xs)) 0 xs h (as-many xs h) ∙ (omega arith) }
 
 -- ---- what a job holds
 
@@ -142,40 +154,55 @@ area-low records slot used =
     let b = length-take (4096 * slot + 4096 - 4096 * slot) (drop (4096 * slot) records) in
     omega arith
 
--- all that the rules give for some parts lies on the sheet
-parts-on-sheet : (widths : List ℕ) (d : Descriptor) (s : State) (ps : List (List ℕ)) → Gives (OnSheet widths d) (λ _ _. Unit) (partsFrom widths d s ps)
+-- all that the rules give for some parts can be drawn
+parts-shown : (widths : List ℕ) (d : Descriptor) (s : State) (ps : List (List ℕ)) → Gives (Shown widths d) (λ _ _. Unit) (partsFrom widths d s ps)
 unfolding partsFrom
-parts-on-sheet widths d s [] = value refl
-parts-on-sheet widths d s (p ∷ ps) =
+parts-shown widths d s [] = value none
+parts-shown widths d s (p ∷ ps) =
     gives-then (elementsBy (place widths d) s (cut (s .chain) p)) _ (elements-on widths d s (cut (s .chain) p)) λ f one.
-    gives-then (partsFrom widths d (f .state) ps) _ (parts-on-sheet widths d (f .state) ps) λ g others.
-    value (all-join widths d (f .items) (g .items) one others)
+    gives-then (partsFrom widths d (f .state) ps) _ (parts-shown widths d (f .state) ps) λ g others.
+    value (every-join one others)
 
--- the items of a slot that has had a job: its bytes, and the sheet of its descriptor
+solid : (widths : List ℕ) (d : Descriptor) → hold (descriptorFields d) ≡ true → (x : Item) → Drawable widths d x → Solid x
+solid widths d ranges (textItem t) x = x .filled
+solid widths d ranges (ruleItem r) x = let low = rule-low widths d r ranges (x .onSheet) in let len = low .0 in let width = low .1 in (x .filled, omega arith, omega arith)
+
+-- some bytes as items that can be drawn under a descriptor in range
+record Drawn (widths : List ℕ) (d : Descriptor) (bytes : List ℕ) : Type 0 where
+  items : List Item
+  itsBytes : bytes ≡ allBytes items
+  drawable : Every (Drawable widths d) items
+  ranges : hold (descriptorFields d) ≡ true
+
+-- those of a slot that has had a job, under its descriptor
 module _ (widths : List ℕ) (h : Hub) (f : Fresh h) (rs : List Request) (slot : ℕ) where
   abbrev now : Hub
   now = steps widths h rs
 
-  kept-items : (j : Job) (mark : ℕ) → j .taken ≡ [] → Kept widths j mark (entryOf now slot) (areaOf (now .records) slot) → OnItsSheet widths (entryOf now slot .descriptor) (printed now slot)
-  kept-items j mark none k =
-      let itsDescriptor = ap (λ (x : Entry). x .descriptor) (k .itsEntry) in
-      let on = value-of (partsFrom widths (j .descriptor) (firstState (j .descriptor)) (map (λ p. p .part) (j .parts))) (parts-on-sheet widths (j .descriptor) _ _) (k .byRules) in
-      record { items = k .result .items; itsBytes = rw none at (k .itsRecords); onSheet = ap (λ (d : Descriptor). allOnSheet widths d (k .result .items)) itsDescriptor ∙ on }
+  abbrev Slot : Type 0
+  Slot = Drawn widths (entryOf now slot .descriptor) (printed now slot)
 
-  its-items : 0 < entryOf now slot .key → OnItsSheet widths (entryOf now slot .descriptor) (printed now slot)
-  its-items had = go (account widths slot h unused rs) (none-taken widths slot h unused rs tt) (holds widths h f rs slot .0)
+  kept-items : (j : Job) (mark : ℕ) → j .taken ≡ [] → hold (descriptorFields (j .descriptor)) ≡ true → Kept widths j mark (entryOf now slot) (areaOf (now .records) slot) → Slot
+  kept-items j mark untaken ranges k =
+      let shown = value-of (partsFrom widths (j .descriptor) (firstState (j .descriptor)) (map (λ p. p .part) (j .parts))) (parts-shown widths (j .descriptor) _ _) (k .byRules) in
+      rw (k .itsEntry) (record { items = k .result .items; itsBytes = rw untaken at (k .itsRecords); drawable = shown; ranges = ranges })
+
+  its-items : 0 < entryOf now slot .key → Slot
+  its-items had = let s = sound widths h f rs slot in go (account widths slot h unused rs) (none-taken widths slot h unused rs tt) (s .described) (s .agrees)
     where
-      go : (a : Account) → NoneTaken a → Agrees widths a (entryOf now slot) (areaOf (now .records) slot) → OnItsSheet widths (entryOf now slot .descriptor) (printed now slot)
-      go unused n k = let none = k .1 in absurd (omega arith)
-      go (running j) n k = kept-items j 1 n k
-      go (ended j) n k = kept-items j 0 n k
+      go : (a : Account) → NoneTaken a → Described a → Agrees widths a (entryOf now slot) (areaOf (now .records) slot) → Slot
+      go unused n ranges k = let keyless = k .1 in absurd (omega arith)
+      go (running j) n ranges k = kept-items j 1 n ranges k
+      go (ended j) n ranges k = kept-items j 0 n ranges k
 
 pub on-the-sheet : OnTheSheet
-on-the-sheet widths h f rs slot had = its-items widths h f rs slot had
+on-the-sheet widths h f rs slot had =
+    let x = its-items widths h f rs slot had in
+    record { items = x .items; itsBytes = x .itsBytes; onSheet = all-on widths _ (x .drawable) }
 
 pub prints : Prints
 prints widths h f rs slot had =
     let x = its-items widths h f rs slot had in
     let its = x .itsBytes in
     let low = area-low (steps widths h rs .records) slot (entryOf (steps widths h rs) slot .state .used) in
-    rw its (items-print (x .items) (rw its at low))
+    rw its (items-print (x .items) (rw its at low) (every-so (solid widths _ (x .ranges)) (x .drawable)))

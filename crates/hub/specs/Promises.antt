@@ -10,7 +10,7 @@ use Rattle.part.specs.Numbers.{if_then_else_}
 use Rattle.part.specs.Checks.{fine}
 use Rattle.part.specs.States.{withUsed}
 use Rattle.part.specs.Ranges.{Range, upTo, only, _to_, _or_, _∈_}
-use Rattle.part.specs.Records.{Item, allBytes, littleAt, isWhole, boundaries}
+use Rattle.part.specs.Records.{Item, allBytes, littleAt, isWhole, isEmpty, boundaries}
 use Rattle.part.specs.Place.{Effect}
 use Rattle.part.specs.Drawing.{allOnSheet}
 use Rattle.part.specs.declared.shapes.Descriptor.{Descriptor}
@@ -132,12 +132,12 @@ Holds = (widths : List ℕ) (h : Hub) → Fresh h → (rs : List Request) (slot 
     Agrees widths (account widths slot h unused rs) (entryOf now slot) (areaOf (now .records) slot) × (damaged (entryOf now slot) ≡ false)
 
 -- ---- PRINTS: printers draw from the areas and check nothing. Where a slot has had a job, open or closed, its bytes up to `used` are whole
--- records, one behind the other, and nothing else: stepping over them from the start meets the end.
+-- records, one behind the other, none of them empty, and nothing else: stepping over them from the start meets the end.
 
--- so many whole records, and nothing behind them
+-- so many whole records, none of them empty, and nothing behind them
 abbrev pub WholeRecords : ℕ → List ℕ → Type 0
 WholeRecords zero bytes = bytes ≡ []
-WholeRecords (suc others) bytes = (isWhole bytes ≡ true) × WholeRecords others (drop (littleAt bytes 0) bytes)
+WholeRecords (suc others) bytes = (isWhole bytes ≡ true) × (isEmpty bytes ≡ false) × WholeRecords others (drop (littleAt bytes 0) bytes)
 
 pub record Printable (bytes : List ℕ) : Type 0 where
   pub count : ℕ

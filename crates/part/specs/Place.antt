@@ -1,13 +1,13 @@
 -- What an element does: the state after it and the items that it shows, or its fault.
 use Prim.Native.Nat.{ℕ}
-use mathlib.Core.Bool.{Bool, _||_}
+use mathlib.Core.Bool.{Bool, not, _||_}
 use mathlib.Core.List.{List, [], _∷_}
 use lib.Dec.{eqb}
 use Rattle.part.specs.Numbers.{if_then_else_, origin, ones, signed}
 use Rattle.part.specs.Checks.{Checked, fine, require, _>>=_, _>>_}
 use Rattle.part.specs.States.{point, withAt, withInline, withBaseline, withMargin, withIncrement, withAdjustment, withFont, withColour, withSpace, withSuppression}
 use Rattle.part.specs.Elements.{Element, Text, RepeatString, AbsoluteMoveInline, AbsoluteMoveBaseline, RelativeMoveInline, RelativeMoveBaseline, BeginLine, SetInlineMargin, SetBaselineIncrement, SetIntercharacterAdjustment, SetVariableSpace, SetCodedFont, SetTextColor, SetTextOrientation, BeginSuppression, EndSuppression, DrawRule, NoOperation}
-use Rattle.part.specs.Records.{Item, textItem, ruleItem}
+use Rattle.part.specs.Records.{ink, Item, textItem, ruleItem}
 use Rattle.part.specs.Presenting.{default, moved, onSheet, hides}
 use Rattle.part.specs.Text.{characters, cycle}
 use Rattle.part.specs.declared.shapes.Descriptor.{Descriptor}
@@ -47,8 +47,9 @@ along mark len width = if eqb mark 1 then width else len
 abbrev pub shownRule : State → ℕ → ℕ → ℕ → Item
 shownRule s mark len width = ruleItem record { at = s .at; mark = mark; colour = s .colour; len = len; width = width }
 
+-- one for each shown rule with ink; one with no ink has no record and needs no room
 abbrev pub ruleItems : Bool → State → ℕ → ℕ → ℕ → List Item
-ruleItems hidden s mark len width = if hidden then [] else shownRule s mark len width ∷ []
+ruleItems hidden s mark len width = if hidden || not (ink len width) then [] else shownRule s mark len width ∷ []
 
 -- its start and its opposite corner must lie on the sheet, or 27; rules move nothing
 unfoldable pub placeRule : Descriptor → State → ℕ → ℕ → ℕ → Checked Effect

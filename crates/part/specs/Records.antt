@@ -1,6 +1,6 @@
 -- "Record area": what an element leaves to be shown, and the bytes of its record.
 use Prim.Native.Nat.{ℕ, zero, suc, _+_, _-_, _*_}
-use mathlib.Core.Bool.{Bool, true, false, _&&_, _||_}
+use mathlib.Core.Bool.{Bool, true, false, not, _&&_, _||_}
 use mathlib.Core.List.{List, [], _∷_, _++_}
 use lib.ListN.{length, getD, take, drop}
 use lib.Dec.{leb, eqb}
@@ -23,6 +23,10 @@ pub record ShownRule : Type 0 where
   pub colour : ℕ
   pub len : ℕ
   pub width : ℕ
+
+-- A rule of zero length or zero width makes no marks: it has no ink.
+abbrev pub ink : ℕ → ℕ → Bool
+ink len width = not (eqb len 0) && not (eqb width 0)
 
 pub data Item : Type 0 where
   textItem : ShownText → Item
@@ -70,6 +74,10 @@ isWhole bytes =
     let n = littleAt bytes 0 in
     let kind = littleAt bytes 2 in
     (eqb kind 1 && leb 16 n || eqb kind 2 && eqb n 16) && leb n (length bytes)
+
+-- An empty one leaves nothing to draw: a text of no characters, a rule with no ink.
+abbrev pub isEmpty : List ℕ → Bool
+isEmpty bytes = if eqb (littleAt bytes 2) 1 then eqb (littleAt bytes 0) 16 else not (ink (littleAt bytes 12) (littleAt bytes 14))
 
 -- Boundaries are the start and the places met by stepping over record lengths from it; a length under 16 ends the steps.
 -- A place beyond the end isn't met; the end itself is.

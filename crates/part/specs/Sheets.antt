@@ -11,7 +11,7 @@ use Rattle.part.specs.States.{point, state}
 use Rattle.part.specs.Ranges.{hold, descriptorFields, stateFields}
 use Rattle.part.specs.Types.{types}
 use Rattle.part.specs.Reading.{sequence, element, cutFrom, cut}
-use Rattle.part.specs.Records.{Item, textItem, ruleItem, bytesOf, isWhole, boundaries}
+use Rattle.part.specs.Records.{Item, textItem, ruleItem, bytesOf, isWhole, isEmpty, boundaries}
 use Rattle.part.specs.Presenting.{moved}
 use Rattle.part.specs.Text.{character, characters, cycle}
 use Rattle.part.specs.Place.{Effect, placeText, placeRule, place}
@@ -214,12 +214,15 @@ jobOf i b i₀ b₀ margin increment adjustment direction font colour width hidd
   hidden = hidden;
 }
 
--- no two numbers alike, so that none can stand for another; and the same on the largest sheet
+-- no two numbers alike, so that none can stand for another; the same on the largest sheet, and with no rule width
 abbrev pub job : Descriptor
 job = jobOf 5000 3000 10 20 30 40 5 1 2 0xFF00 60 7
 
 abbrev pub vast : Descriptor
 vast = jobOf 32767 32767 10 20 30 40 5 1 2 0xFF00 60 7
+
+abbrev pub thin : Descriptor
+thin = jobOf 5000 3000 10 20 30 40 5 1 2 0xFF00 0 7
 
 -- a job that stands somewhere with so many bytes used, its other numbers unlike the descriptor's; and where most rows begin
 abbrev pub halfway : Point → ℕ → State
@@ -312,6 +315,8 @@ further =
     ++ faultsAt 27 0x40 (on 4951 0 ∷ [])
     ++ faultsAt 27 0x2BD304E403E8 (on 4001 2940 ∷ on 4000 2941 ∷ keptAs 32767 32768 ∷ keptAs 32768 32767 ∷ [])
     ++ faultsAt 27 0x2BD304E603E8 (on 4941 2000 ∷ on 4940 2001 ∷ keptAs 32767 32768 ∷ keptAs 32768 32767 ∷ [])
+    ++ faultsAt 27 0x2BD304E40000 (on 5001 2940 ∷ on 5000 2941 ∷ keptAs 32767 32768 ∷ keptAs 32768 32767 ∷ [])
+    ++ faultsAt 27 0x2BD307E603E8000000 (on 5001 2000 ∷ on 5000 2001 ∷ keptAs 32767 32768 ∷ keptAs 32768 32767 ∷ [])
     ++ faults 27 0 (0x2BD304E47FFF ∷ 0x2BD304E67FFF ∷ 0x2BD305EE7FFFC1 ∷ [])
     -- beyond the positions by one
     ++ faultsAt 28 0x2BD304C80001 (on 32767 0 ∷ [])
@@ -372,11 +377,23 @@ further =
     ∷ accepts job start (hex 0x2BD3FFEE0001C1 ++ replicate 250 0x2B) 1 17 (halfway (on 555 90) 177) (hex 0x1100_0100_6400_5A00_0100_0000_0600_3200_C1)
     ∷ accepts job start (hex 0x2BD3FFF8 ++ replicate 253 0x2B) 1 0 start []
     ∷ accepts job start (hex 0x2BD302DB_02F8) 2 0 start []
-    -- DIR and DBR: width absent, given, all ones; a rule of no length and width
+    -- DIR and DBR: width absent, given, all ones
     ∷ accepts job (stands (on 100 90) 80 70 6 0 1 0xFF07 50 0 0 160) (hex 0x2BD304E40014) 1 16 (stands (on 100 90) 80 70 6 0 1 0xFF07 50 0 0 176) (hex 0x1000_0200_6400_5A00_0000_07FF_1400_3C00)
     ∷ accepts job start (hex 0x2BD307E6001400C000) 1 16 (halfway (on 100 90) 176) (hex 0x1000_0200_6400_5A00_0100_0000_1400_C000)
-    ∷ accepts job start (hex 0x2BD307E50014FFFFFF_07E40000000000) 2 32 (halfway (on 100 90) 192) (hex 0x1000_0200_6400_5A00_0000_0000_1400_3C00 ++ hex 0x1000_0200_6400_5A00_0000_0000_0000_0000)
+    ∷ accepts job start (hex 0x2BD307E50014FFFFFF_07E40000000000) 2 16 (halfway (on 100 90) 176) (hex 0x1000_0200_6400_5A00_0000_0000_1400_3C00)
     ∷ accepts job start (hex 0x2BD307E60014FFFFFF) 1 16 (halfway (on 100 90) 176) (hex 0x1000_0200_6400_5A00_0100_0000_1400_3C00)
+    -- "Rules with no ink": of no length; of no width, given, absent and by all ones; the least of both has its record, whatever the descriptor's width
+    ∷ accepts job start (hex 0x2BD304E50000_04E60000) 2 0 start []
+    ∷ accepts job start (hex 0x2BD307E50014000000_07E60014000000) 2 0 start []
+    ∷ accepts thin start (hex 0x2BD304E50014_07E60014FFFFFF) 2 0 start []
+    ∷ accepts thin start (hex 0x2BD307E60001000100) 1 16 (halfway (on 100 90) 176) (hex 0x1000_0200_6400_5A00_0100_0000_0100_0100)
+    -- they need no room, and are tested for 24 and 27 all the same, but not for 27 while hidden
+    ∷ accepts thin (halfway (on 100 90) 4096) (hex 0x2BD304E50000_07E70014000000_04E50014_07E60014FFFFFF) 4 0 (halfway (on 100 90) 4096) []
+    ∷ accepts job (halfway (on 5000 2940) 4081) (hex 0x2BD304E40000) 1 0 (halfway (on 5000 2940) 4081) []
+    ∷ accepts job (halfway (on 5000 2000) 4081) (hex 0x2BD307E603E8000000) 1 0 (halfway (on 5000 2000) 4081) []
+    ∷ refuses thin (halfway (on 5001 2000) 4096) (hex 0x2BD304E603E8) 27 0
+    ∷ refuses thin start (hex 0x2BD307E40000000001) 24 6
+    ∷ accepts job (stands (keptAs 32763 32858) 80 70 6 0 1 0 50 7 0 4096) (hex 0x2BD304E50000_07E67FFF000000) 2 0 (stands (keptAs 32763 32858) 80 70 6 0 1 0 50 7 0 4096) []
     -- suppression 7 is hidden, also from the part before: no record and no edge, but I moves; 8 is not
     ∷ accepts job (stands (keptAs 32763 32858) 80 70 6 0 1 0 50 7 0 160) (hex 0xC1_2BD304E57FFF_03F507_04C60000_C2) 5 17 (halfway (on 456 90) 177) (hex 0x1100_0100_0000_5A00_0100_0000_0600_3200_C2)
     ∷ accepts job (stands (on 100 90) 80 70 6 0 1 0 50 8 0 160) (hex 0xC1_2BD304E50014_03F508_03F307_03DAC2) 5 33 (stands (on 1011 90) 80 70 6 0 1 0 50 7 0 193) (hex 0x1100_0100_6400_5A00_0100_0000_0600_3200_C1 ++ hex 0x1000_0200_2B02_5A00_0000_0000_1400_3C00)
@@ -470,36 +487,43 @@ further-hold = refl
 
 -- ---- records read back
 
--- some bytes, whether they begin with a whole record, and their boundaries
+-- some bytes, whether they begin with a whole record and whether that is empty, and their boundaries
 pub record ReadBack : Type 0 where
   pub bytes : List ℕ
   pub whole : Bool
+  pub empty : Bool
   pub boundaries : List ℕ
 
-abbrev pub reads : List ℕ → Bool → List ℕ → ReadBack
-reads bytes first places = record { bytes = bytes; whole = first; boundaries = places }
+abbrev pub reads : List ℕ → Bool → Bool → List ℕ → ReadBack
+reads bytes first nothing places = record { bytes = bytes; whole = first; empty = nothing; boundaries = places }
 
 unfoldable pub readBack : List ReadBack
 readBack =
-    reads [] false (0 ∷ [])
+    reads [] false true (0 ∷ [])
     -- a text of no characters, and a rule; then with a byte too few, and with records after them
-    ∷ reads (hex 0x1000_0100 ++ blank 12) true (0 ∷ 16 ∷ [])
-    ∷ reads (hex 0x1000_0200 ++ blank 12) true (0 ∷ 16 ∷ [])
-    ∷ reads (hex 0x1000_0100 ++ blank 11) false (0 ∷ [])
-    ∷ reads (hex 0x1000_0200 ++ blank 11) false (0 ∷ [])
-    ∷ reads (hex 0x1100_0100 ++ blank 13 ++ hex 0x1000_0200 ++ blank 12 ++ hex 0x1200_0100) true (0 ∷ 17 ∷ 33 ∷ [])
-    ∷ reads (hex 0x0D01_0100 ++ blank 265 ++ hex 0x0F00) true (0 ∷ 269 ∷ [])
+    ∷ reads (hex 0x1000_0100 ++ blank 12) true true (0 ∷ 16 ∷ [])
+    ∷ reads (hex 0x1000_0200 ++ blank 12) true false (0 ∷ 16 ∷ [])
+    ∷ reads (hex 0x1000_0100 ++ blank 11) false true (0 ∷ [])
+    ∷ reads (hex 0x1000_0200 ++ blank 11) false false (0 ∷ [])
+    ∷ reads (hex 0x1100_0100 ++ blank 13 ++ hex 0x1000_0200 ++ blank 12 ++ hex 0x1200_0100) true false (0 ∷ 17 ∷ 33 ∷ [])
+    ∷ reads (hex 0x0D01_0100 ++ blank 265 ++ hex 0x0F00) true false (0 ∷ 269 ∷ [])
+    -- rules of no length and of no width, which are whole; a text whose numbers are all 0, and a number in its second byte alone
+    ∷ reads (hex 0x1000_0200 ++ replicate 8 0 ++ hex 0xEEEE_0000) true true (0 ∷ 16 ∷ [])
+    ∷ reads (hex 0x1000_0200 ++ replicate 10 0 ++ hex 0xEEEE) true true (0 ∷ 16 ∷ [])
+    ∷ reads (hex 0x1100_0100 ++ replicate 13 0) true false (0 ∷ 17 ∷ [])
+    ∷ reads (hex 0x1001_0100 ++ blank 268) true false (0 ∷ 272 ∷ [])
+    ∷ reads (hex 0x1000_0200 ++ replicate 9 0 ++ hex 0x01_0001) true false (0 ∷ 16 ∷ [])
     -- other lengths and kinds; a length under 16 ends the steps, a kind does not
-    ∷ reads (hex 0x0F00_0100 ++ blank 12) false (0 ∷ [])
-    ∷ reads (hex 0x0F00_0200 ++ blank 12) false (0 ∷ [])
-    ∷ reads (hex 0x1100_0200 ++ blank 13) false (0 ∷ 17 ∷ [])
-    ∷ reads (hex 0x1000_0300 ++ blank 12) false (0 ∷ 16 ∷ [])
-    ∷ reads (hex 0x1000_0101 ++ blank 12) false (0 ∷ 16 ∷ [])
+    ∷ reads (hex 0x0F00_0100 ++ blank 12) false false (0 ∷ [])
+    ∷ reads (hex 0x0F00_0200 ++ blank 12) false false (0 ∷ [])
+    ∷ reads (hex 0x1100_0200 ++ blank 13) false false (0 ∷ 17 ∷ [])
+    ∷ reads (hex 0x1000_0300 ++ blank 12) false false (0 ∷ 16 ∷ [])
+    ∷ reads (hex 0x1000_0101 ++ blank 12) false false (0 ∷ 16 ∷ [])
     ∷ []
 
 -- such a row as the definitions have it
 abbrev pub readAgain : ReadBack → ReadBack
-readAgain r = reads (r .bytes) (isWhole (r .bytes)) (boundaries (r .bytes))
+readAgain r = reads (r .bytes) (isWhole (r .bytes)) (isEmpty (r .bytes)) (boundaries (r .bytes))
 
 pub read-back-hold : map readAgain readBack ≡ readBack
 unfolding readBack boundaries

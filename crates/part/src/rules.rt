@@ -7,6 +7,7 @@ ghost use lib.ListN.{length};
 ghost use Rattle.part.specs.Numbers.{origin};
 ghost use Rattle.part.specs.Ranges.{upTo, _∈_};
 ghost use Rattle.part.specs.Elements.{ruleWidth};
+ghost use Rattle.part.specs.Records.{ink};
 ghost use Rattle.part.specs.Place.{along, shownRule};
 ghost use Rattle.part.specs.Code.{Does, recorded, ruled};
 use super::bools::both;
@@ -54,6 +55,13 @@ fn fits_sheet(size_i: u32, size_b: u32, i: u32, b: u32, mark: u32, len: u32, wid
     both(across, down)
 }
 
+// Whether a rule makes marks: one of no length or no width doesn't.
+fn has_ink(len: u32, width: u32) -> bool
+    ensures { λ r. ⌜ r ≡ ink len width ⌝ }
+{
+    both(len != 0, width != 0)
+}
+
 // The record of a rule at the working state's place, if there is room.
 fn record_rule(area: &mut [u8], w: &mut [u32], mark: u32, len: u32, width: u32) -> u32
     requires { ⌜ (length (now w) ≡ 12) × (length (now area) ≡ 4096) ⌝ }
@@ -81,7 +89,7 @@ fn record_rule(area: &mut [u8], w: &mut [u32], mark: u32, len: u32, width: u32) 
     0
 }
 
-// A rule: 24, 27, 29.
+// A rule: 24, 27, and with ink 29.
 pub fn draw_rule(mark: u32, p: &[u8], area: &mut [u8], d: Descriptor, w: &mut [u32]) -> u32
     requires { ⌜ (length (now w) ≡ 12) × (length (now area) ≡ 4096) ⌝ }
     ensures { λ r. ⌜ Does (λ s. ruled d s mark (now (p .entry))) r w area ⌝ }
@@ -101,6 +109,9 @@ pub fn draw_rule(mark: u32, p: &[u8], area: &mut [u8], d: Descriptor, w: &mut [u
     }
     if !fits_sheet(d.size.i, d.size.b, w[I], w[B], mark, len, width) {
         return 27;
+    }
+    if !has_ink(len, width) {
+        return 0;
     }
     record_rule(area, w, mark, len, width)
 }

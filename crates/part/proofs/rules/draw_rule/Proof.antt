@@ -1,22 +1,32 @@
--- `part::rules::draw_rule` meets its contract: by its three tests, and then by its record.
+-- `part::rules::draw_rule` meets its contract: by its tests, and then by its record.
 -- Assumes nothing.
 use Prim.Native.Nat.{ℕ}
-use Rattle.part.specs.Elements.{ruleWidth}
-use Rattle.part.specs.Place.{placeRule}
+use Rattle.part.specs.Numbers.{ones, byte, word}
 use Rattle.part.specs.Ranges.{upTo, _∈_}
+use Rattle.part.specs.Elements.{ruleWidth}
+use Rattle.part.specs.Presenting.{default}
+use Rattle.part.specs.Place.{placeRule}
+use Rattle.part.specs.Part.{roomed}
+use Rattle.part.specs.Code.{stateOf, ruled}
+use Rattle.part.specs.declared.shapes.Descriptor.{Descriptor}
+use Rattle.part.specs.declared.shapes.State.{State}
 use borrow.Author.Needs.{needs}
 use borrow.Author.Tests.{not-true, not-false, le-leb, lt-leb}
-use mathlib.Core.Bool.{Bool, true, false, not, _&&_}
+use denote.Ref.{now}
+use mathlib.Core.Bool.{Bool, false, not, _&&_}
+use mathlib.Core.List.{List}
 use mathlib.Core.Path.{_≡_, refl, sym, _∙_}
 use Rattle.part.proofs.Checks.{first-of, second-of}
 use Rattle.part.proofs.rules.draw_rule.Statement.{statement}
 use Rattle.part.proofs.rules.draw_rule.Tie as tie
 
--- the values were taken: length and width were each in range
-in-range : (len width fraction : ℕ) (r : Bool) → r ≡ (len ∈ upTo 0x7FFF && ruleWidth width fraction) → not r ≡ false → ((len ∈ upTo 0x7FFF) ≡ true) × (ruleWidth width fraction ≡ true)
-in-range len width fraction r e h =
+-- the values were taken, each in its range: what is left is to place the rule
+taken : (d : Descriptor) (s : State) (mark : ℕ) (p : List ℕ) {len given fraction width : ℕ} {r : Bool}
+    → len ≡ word 0 p 0 → given ≡ word 0xFF p 2 → fraction ≡ byte 0xFF p 4 → r ≡ (len ∈ upTo 0x7FFF && ruleWidth given fraction) → not r ≡ false → width ≡ default ones given (d .rule)
+    → ruled d s mark p ≡ roomed s (placeRule d s mark len width)
+taken d s mark p {len = len} {given = given} {fraction = fraction} {r = r} a b c e h w =
     let ok = sym e ∙ not-false r h in
-    (first-of (len ∈ upTo 0x7FFF) (ruleWidth width fraction) ok, second-of (len ∈ upTo 0x7FFF) (ruleWidth width fraction) ok)
+    rw (← a, ← b, ← c, first-of (len ∈ upTo 0x7FFF) (ruleWidth given fraction) ok, second-of (len ∈ upTo 0x7FFF) (ruleWidth given fraction) ok, ← w)
 
 word-at-requires : tie.Need-word-at-requires
 word-at-requires c κs = search needs
@@ -53,8 +63,12 @@ is-hidden-requires c κs = search needs
 returns-3 : tie.Need-returns-3
 unfolding placeRule
 returns-3 c =
-    let ok = in-range (c .before .before .before .before .before .before .before .before .word-at .result) (c .before .before .before .before .before .before .before .word-at2 .result) (c .before .before .before .before .before .before .byte-at .result) _ (c .before .before .before .before .before .rule-values .ensures) (c .before .before .before .before .if1 .left) in
-    rw (← c .before .before .before .before .before .before .before .before .word-at .ensures .0, ← c .before .before .before .before .before .before .before .word-at2 .ensures .0, ← c .before .before .before .before .before .before .byte-at .ensures .0, ok .0, ok .1, ← c .before .before .before .or-default .ensures, sym (c .before .is-hidden .ensures) ∙ c .if3 .taken) (refl, refl)
+    let h = c .before in
+    let v = h .before .before in
+    let r = v .before .before in
+    let a = r .before .before .before .before .before .before .before .args in
+    let known = taken (a .d) (stateOf (now (a .w))) (a .mark) (now (a .p)) (r .before .before .before .word-at .ensures .0) (r .before .before .word-at2 .ensures .0) (r .before .byte-at .ensures .0) (r .rule-values .ensures) (v .before .if1 .left) (v .or-default .ensures) in
+    rw (known, sym (h .is-hidden .ensures) ∙ c .if3 .taken) (refl, refl)
 
 slice-read-fits-sheet : tie.Need-slice-read-fits-sheet
 slice-read-fits-sheet c = search needs
@@ -68,8 +82,25 @@ fits-sheet-requires c κs = search needs
 returns-4 : tie.Need-returns-4
 unfolding placeRule
 returns-4 c =
-    let ok = in-range (c .before .before .before .before .before .before .before .before .before .before .before .before .word-at .result) (c .before .before .before .before .before .before .before .before .before .before .before .word-at2 .result) (c .before .before .before .before .before .before .before .before .before .before .byte-at .result) _ (c .before .before .before .before .before .before .before .before .before .rule-values .ensures) (c .before .before .before .before .before .before .before .before .if1 .left) in
-    rw (← c .before .before .before .before .before .before .before .before .before .before .before .before .word-at .ensures .0, ← c .before .before .before .before .before .before .before .before .before .before .before .word-at2 .ensures .0, ← c .before .before .before .before .before .before .before .before .before .before .byte-at .ensures .0, ok .0, ok .1, ← c .before .before .before .before .before .before .before .or-default .ensures, sym (c .before .before .before .before .before .is-hidden .ensures) ∙ c .before .before .before .before .if3 .left, sym (c .before .fits-sheet .ensures) ∙ not-true (c .before .fits-sheet .result) (c .if4 .taken)) (refl, refl)
+    let h = c .before .before .before .before .before in
+    let v = h .before .before in
+    let r = v .before .before in
+    let a = r .before .before .before .before .before .before .before .args in
+    let known = taken (a .d) (stateOf (now (a .w))) (a .mark) (now (a .p)) (r .before .before .before .word-at .ensures .0) (r .before .before .word-at2 .ensures .0) (r .before .byte-at .ensures .0) (r .rule-values .ensures) (v .before .if1 .left) (v .or-default .ensures) in
+    rw (known, sym (h .is-hidden .ensures) ∙ c .before .before .before .before .if3 .left, sym (c .before .fits-sheet .ensures) ∙ not-true (c .before .fits-sheet .result) (c .if4 .taken)) (refl, refl)
+
+has-ink-requires : tie.Need-has-ink-requires
+has-ink-requires c κs = search needs
+
+returns-5 : tie.Need-returns-5
+unfolding placeRule
+returns-5 c =
+    let h = c .before .before .before .before .before .before .before in
+    let v = h .before .before in
+    let r = v .before .before in
+    let a = r .before .before .before .before .before .before .before .args in
+    let known = taken (a .d) (stateOf (now (a .w))) (a .mark) (now (a .p)) (r .before .before .before .word-at .ensures .0) (r .before .before .word-at2 .ensures .0) (r .before .byte-at .ensures .0) (r .rule-values .ensures) (v .before .if1 .left) (v .or-default .ensures) in
+    rw (known, sym (h .is-hidden .ensures) ∙ c .before .before .before .before .before .before .if3 .left, sym (c .before .before .before .fits-sheet .ensures) ∙ not-false (c .before .before .before .fits-sheet .result) (c .before .before .if4 .left), sym (c .before .has-ink .ensures) ∙ not-true (c .before .has-ink .result) (c .if5 .taken)) (refl, refl)
 
 record-rule-requires : tie.Need-record-rule-requires
 record-rule-requires c κs = search needs
@@ -80,11 +111,15 @@ same-length c = search needs
 same-length-2 : tie.Need-same-length-2
 same-length-2 c = search needs
 
-returns-5 : tie.Need-returns-5
+returns-6 : tie.Need-returns-6
 unfolding placeRule
-returns-5 c =
-    let ok = in-range (c .before .before .before .before .before .before .before .before .before .before .before .before .before .before .before .before .before .before .before .word-at .result) (c .before .before .before .before .before .before .before .before .before .before .before .before .before .before .before .before .before .before .word-at2 .result) (c .before .before .before .before .before .before .before .before .before .before .before .before .before .before .before .before .before .byte-at .result) _ (c .before .before .before .before .before .before .before .before .before .before .before .before .before .before .before .before .rule-values .ensures) (c .before .before .before .before .before .before .before .before .before .before .before .before .before .before .before .if1 .left) in
-    rw (← c .before .before .before .before .before .before .before .before .before .before .before .before .before .before .before .before .before .before .before .word-at .ensures .0, ← c .before .before .before .before .before .before .before .before .before .before .before .before .before .before .before .before .before .before .word-at2 .ensures .0, ← c .before .before .before .before .before .before .before .before .before .before .before .before .before .before .before .before .before .byte-at .ensures .0, ok .0, ok .1, ← c .before .before .before .before .before .before .before .before .before .before .before .before .before .before .or-default .ensures, sym (c .before .before .before .before .before .before .before .before .before .before .before .before .is-hidden .ensures) ∙ c .before .before .before .before .before .before .before .before .before .before .before .if3 .left, sym (c .before .before .before .before .before .before .before .before .fits-sheet .ensures) ∙ not-false (c .before .before .before .before .before .before .before .before .fits-sheet .result) (c .before .before .before .before .before .before .before .if4 .left)) (c .before .before .before .before .record-rule .ensures)
+returns-6 c =
+    let h = c .before .before .before .before .before .before .before .before .before .before .before .before .before .before in
+    let v = h .before .before in
+    let r = v .before .before in
+    let a = r .before .before .before .before .before .before .before .args in
+    let known = taken (a .d) (stateOf (now (a .w))) (a .mark) (now (a .p)) (r .before .before .before .word-at .ensures .0) (r .before .before .word-at2 .ensures .0) (r .before .byte-at .ensures .0) (r .rule-values .ensures) (v .before .if1 .left) (v .or-default .ensures) in
+    rw (known, sym (h .is-hidden .ensures) ∙ c .before .before .before .before .before .before .before .before .before .before .before .before .before .if3 .left, sym (c .before .before .before .before .before .before .before .before .before .before .fits-sheet .ensures) ∙ not-false (c .before .before .before .before .before .before .before .before .before .before .fits-sheet .result) (c .before .before .before .before .before .before .before .before .before .if4 .left), sym (c .before .before .before .before .before .before .before .before .has-ink .ensures) ∙ not-false (c .before .before .before .before .before .before .before .before .has-ink .result) (c .before .before .before .before .before .before .before .if5 .left)) (c .before .before .before .before .record-rule .ensures)
 
 pub draw-rule-spec : {M : Type 1} → statement M
 draw-rule-spec =
@@ -104,7 +139,9 @@ draw-rule-spec =
     slice-read-fits-sheet-2
     fits-sheet-requires
     returns-4
+    has-ink-requires
+    returns-5
     record-rule-requires
     same-length
     same-length-2
-    returns-5)
+    returns-6)
