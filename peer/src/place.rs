@@ -165,7 +165,7 @@ impl<'a> Work<'a> {
         Ok(())
     }
 
-    /// Draws a rule from I, B; it moves nothing.
+    /// Draws a rule from I, B; it moves nothing, and with no ink it isn't recorded.
     #[inline(always)]
     fn rule(&mut self, axis: Axis, p: Parameters<'_>) -> Result<(), Fault> {
         let length = values::distance(p)?;
@@ -177,6 +177,10 @@ impl<'a> Work<'a> {
         let d = self.descriptor;
         if !within(self.i, along_i, d.size_i) || !within(self.b, along_b, d.size_b) {
             return Err(Code::Outside.into());
+        }
+        // No marks appear, so there is nothing that needs room.
+        if length == 0 || width == 0 {
+            return Ok(());
         }
         let header = record::header([
             HEADER as u16,

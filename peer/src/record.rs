@@ -135,7 +135,10 @@ mod tests {
             bytes[..16].copy_from_slice(&header([length, kind, 0, 0, 0, 0, 0, 0]));
             assert_eq!(record_at(&bytes), None);
         }
+        // Records that are never written now, but may stand in an area.
         let empty = header([16, TEXT, 0, 0, 0, 0, 0xFFFF, 0xFFFF]);
         assert!(matches!(record_at(&empty), Some((Record::Text { adjustment: -1, .. }, 16))));
+        let no_ink = header([16, RULE, 0, 0, 0, 0, 0, 0]);
+        assert!(matches!(record_at(&no_ink), Some((Record::Rule { length: 0, width: 0, .. }, 16))));
     }
 }

@@ -29,6 +29,10 @@ fn listings_of_rules_and_refusals() {
         listing(&hex("2BD304C9FFFB 05C3000201 04C70064 04DBC1C2 07E6000AFFFFFF")),
         "PART 26\nT 100 0 0 65287 -2 65535 C1C2\nR 384 0 1 65287 10 14\nEND 384 0 5 34\n"
     );
+    assert_eq!(
+        listing(&hex("2BD304E50000 07E6000A000000 C1 2BD304E40001")),
+        "PART 20\nT 0 0 0 65287 0 65535 C1\nR 144 0 0 65287 1 14\nEND 144 0 4 33\n"
+    );
     assert_eq!(listing(&hex("2BD304C9FFFB")), "PART 6\nEND -5 0 1 0\n");
     assert_eq!(listing(&hex("C12BC1")), "PART 3\nREFUSED 21 2\n");
     assert_eq!(listing(&hex("2BD304C68000")), "PART 6\nREFUSED 24 4\n");

@@ -120,12 +120,12 @@ fn each_half_of_an_adjustment_defaults_alone() {
 }
 
 #[test]
-fn rules_have_records() {
+fn rules_with_ink_have_records() {
     sheet("2BD307E40001FFFF00", answer(24, 6, 0));
     sheet("2BD307E4000100C001", answer(24, 6, 0));
     sheet("2BD307E4000100C100", answer(24, 6, 0));
     sheet("2BD304E4FFFF", answer(24, 4, 0));
-    sheet("2BD304E40000", answer(0, 1, 16));
+    sheet("2BD304E40000", answer(0, 1, 0));
     let desk = sheet("2BD307E40001FFFFFF", answer(0, 1, 16));
     let colour = 0xFF07;
     let rule = Record::Rule { i: 0, b: 0, axis: 0, colour, length: 1, width: 14 };

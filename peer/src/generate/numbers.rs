@@ -50,6 +50,15 @@ fn amount(rng: &mut Rng) -> u32 {
     }
 }
 
+/// A rule width, often 0: a rule that doesn't give its own then has no ink.
+fn rule(rng: &mut Rng) -> u32 {
+    if rng.chance(1, 3) {
+        0
+    } else {
+        often_end(rng, 0, 192)
+    }
+}
+
 /// A suppression, often none or one of few, so that ids meet.
 fn suppression(rng: &mut Rng) -> u32 {
     match rng.below(6) {
@@ -75,7 +84,7 @@ pub fn descriptor(rng: &mut Rng) -> Descriptor {
         direction: rng.between(0, 1),
         font: rng.between(0, 3),
         colour: rng.pick(&COLOURS),
-        rule: often_end(rng, 0, 192),
+        rule: rule(rng),
         hidden: suppression(rng),
     }
 }
@@ -87,6 +96,15 @@ fn position(rng: &mut Rng, size: u32) -> u32 {
         1 => rng.between(kept(-100), kept(100)),
         2 => kept(size as i32),
         _ => kept(rng.between(0, size.min(32_767)) as i32),
+    }
+}
+
+/// Record bytes used, often none, or all but one or two records, or all.
+fn used(rng: &mut Rng) -> u32 {
+    match rng.below(8) {
+        0..=3 => 0,
+        4 => rng.between(4_064, 4_096),
+        _ => often_end(rng, 0, 4_096),
     }
 }
 
@@ -104,7 +122,7 @@ pub fn state(rng: &mut Rng, d: &Descriptor) -> State {
         space: if rng.chance(1, 3) { amount(rng) } else { ABSENT },
         suppression: suppression(rng),
         chain: rng.between(0, 1),
-        used: if rng.chance(1, 2) { 0 } else { often_end(rng, 0, 4_096) },
+        used: used(rng),
     }
 }
 

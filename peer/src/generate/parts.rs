@@ -18,6 +18,11 @@ use crate::record::HEADER;
 const JUDGED: [u8; 18] =
     [AMI, AMB, SIM, SBI, SVI, SCFL, STC, BSU, ESU, RPS, SIA, SIA, STO, STO, DIR, DIR, DBR, DBR];
 
+/// A rule of 1 by 1, which fits every page.
+const LEAST_INK: &[u8] = &[0, 1, 0, 1, 0];
+/// Rules with no ink, the last two where the descriptor's rule width is 0.
+const NO_INK: [&[u8]; 4] = [&[0, 0], &[0, 1, 0, 0, 0], &[0, 1], &[0, 1, 0xFF, 0xFF, 0xFF]];
+
 /// How an element is to fail.
 #[derive(Clone, Copy)]
 enum Flaw {
@@ -63,6 +68,12 @@ impl<'a> Draft<'a> {
 
     fn is_run(&self, bytes: &[u8]) -> bool {
         self.ground.state.chain == 0 && bytes.first().is_some_and(|&byte| byte != PREFIX)
+    }
+
+    /// A sequence for the place reached.
+    fn sequence(&self, rng: &mut Rng, function: u8, parameters: &[u8]) -> Vec<u8> {
+        let chained = self.ground.state.chain != 0;
+        elements::sequence(rng, chained, self.hand, function, parameters)
     }
 
     /// An element for the place reached; never a second free run, which would be one with the first.
@@ -115,20 +126,20 @@ impl<'a> Draft<'a> {
         let most = introducer + 253;
         let length = if left <= most { left } else { most.min(left - 4) };
         let ignored = vec![0x5A; length - introducer];
-        let nop = elements::sequence(rng, chained, self.hand, NOP, &ignored);
+        let nop = self.sequence(rng, NOP, &ignored);
         if !self.attempt(&nop).is_done() {
             self.part.extend(nop);
         }
     }
 
-    /// Adds text to the edge of the page or of I's range, often hidden and going backwards.
-    fn edge(&mut self, rng: &mut Rng) {
+    /// Grows, then adds text to the edge of the page or of I's range, often hidden and going backwards.
+    fn edge(&mut self, rng: &mut Rng, size: usize) {
+        self.grow(rng, size.min(LONGEST_PART - 600));
         let hidden = self.ground.descriptor.hidden as u8;
         let amount = rng.between(0, 0x0FFF).to_be_bytes();
         let backwards = [amount[2], amount[3], 1];
         for (function, parameters) in [(BSU, &[hidden][..]), (SIA, &backwards)] {
-            let chained = self.ground.state.chain != 0;
-            let bytes = elements::sequence(rng, chained, self.hand, function, parameters);
+            let bytes = self.sequence(rng, function, parameters);
             if rng.chance(2, 3) {
                 self.attempt(&bytes);
             }
@@ -136,15 +147,34 @@ impl<'a> Draft<'a> {
         self.part.extend(elements::snug(rng, &self.ground, self.hand));
     }
 
-    /// Fills the area with rules that start at the page's corner.
+    /// Fills the area with rules at the page's corner, and adds rules that need no room.
     fn brim(&mut self, rng: &mut Rng) {
         let rules = AREA.saturating_sub(self.ground.state.used as usize) / HEADER;
-        let functions = [AMI, AMB].into_iter().chain(iter::repeat_n(DIR, rules));
-        for function in functions {
-            let chained = self.ground.state.chain != 0;
-            let bytes = elements::sequence(rng, chained, self.hand, function, &[0, 0]);
+        let corner = [AMI, AMB].map(|function| (function, &[0, 0][..]));
+        let no_ink = NO_INK.map(|parameters| (rng.pick(&[DIR, DBR]), parameters));
+        let filled = corner.into_iter().chain(iter::repeat_n((DIR, LEAST_INK), rules));
+        for (function, parameters) in filled.chain(no_ink) {
+            let bytes = self.sequence(rng, function, parameters);
             self.attempt(&bytes);
         }
+    }
+
+    /// Fills the area, then grows by what needs no room.
+    fn overfill(&mut self, rng: &mut Rng, size: usize) {
+        self.brim(rng);
+        self.grow(rng, (self.part.len() + size).min(LONGEST_PART));
+    }
+
+    /// Grows, then adds a rule with no ink at the page's edge or one beyond, where it is refused.
+    fn beyond(&mut self, rng: &mut Rng, size: usize) {
+        self.grow(rng, size.min(LONGEST_PART - 20));
+        let Descriptor { size_i, size_b, .. } = self.ground.descriptor;
+        let (moving, edge) = rng.pick(&[(AMI, size_i), (AMB, size_b)]);
+        let to = edge.saturating_add(rng.between(0, 1)) as u16;
+        let bytes = self.sequence(rng, moving, &to.to_be_bytes());
+        self.attempt(&bytes);
+        let (function, parameters) = (rng.pick(&[DIR, DBR]), rng.pick(&NO_INK));
+        self.part.extend(self.sequence(rng, function, parameters));
     }
 
     /// Adds an element that fails, if one is found, best as meant.
@@ -214,10 +244,9 @@ pub fn part(rng: &mut Rng, ground: &Ground<'_>) -> Vec<u8> {
             let function = rng.pick(&JUDGED);
             fault(rng, &mut draft, size, Flaw::Value(function));
         }
-        20 | 21 => {
-            draft.grow(rng, size.min(LONGEST_PART - 600));
-            draft.edge(rng);
-        }
+        20 | 21 => draft.edge(rng, size),
+        22 => draft.overfill(rng, size),
+        23 | 24 => draft.beyond(rng, size),
         _ => draft.grow(rng, size),
     }
     draft.part
@@ -233,8 +262,8 @@ pub fn sized_part(rng: &mut Rng, ground: &Ground<'_>, size: usize) -> Vec<u8> {
 /// A part with an element at fault, now and then its first one, and often more after it.
 fn fault(rng: &mut Rng, draft: &mut Draft<'_>, size: usize, flaw: Flaw) {
     if rng.chance(3, 4) {
-        // A full area takes up to 258 sequences of 6 bytes.
-        draft.grow(rng, size.min(LONGEST_PART - 2_000));
+        // A full area takes up to 262 sequences of 9 bytes.
+        draft.grow(rng, size.min(LONGEST_PART - 2_800));
     }
     draft.fail(rng, flaw);
     if rng.chance(1, 2) {
