@@ -2,7 +2,8 @@
 
 use peer::hub::Lent;
 use peer::model::{AREA, SLOTS};
-use peer::reader::{CHAIN, DBR, DIR, SIA, STO};
+use peer::reader::{read, Element, CHAIN, DBR, DIR, SIA, STO};
+use peer::record::HEADER;
 use peer::replay::Backend;
 use peer::{Answer, Code, Descriptor, Entry, State};
 
@@ -17,6 +18,7 @@ pub enum Fault {
     NeighbourByte,
     RefusalTouches,
     AddedOff,
+    InkRoom,
     PartElements,
     PartRecord,
     PartState,
@@ -29,7 +31,7 @@ pub enum Fault {
 }
 
 /// Every fault, its name for `--break`, and the test that is to find it.
-pub const FAULTS: [(Fault, &str, &str); 17] = [
+pub const FAULTS: [(Fault, &str, &str); 18] = [
     (Fault::FreshKey, "fresh-key", "requests"),
     (Fault::OpenKey, "open-key", "requests"),
     (Fault::CloseForgets, "close-forgets", "requests"),
@@ -38,6 +40,7 @@ pub const FAULTS: [(Fault, &str, &str); 17] = [
     (Fault::NeighbourByte, "neighbour-byte", "requests"),
     (Fault::RefusalTouches, "refusal-touches", "requests"),
     (Fault::AddedOff, "added-off", "requests"),
+    (Fault::InkRoom, "ink-room", "requests"),
     (Fault::PartElements, "part-elements", "parts"),
     (Fault::PartRecord, "part-record", "parts"),
     (Fault::PartState, "part-state", "parts"),
@@ -86,9 +89,10 @@ impl<B: Backend> Backend for Broken<B> {
 
     fn submit(&mut self, lent: Lent<'_>, slot: u32, key: u32, number: u32, part: &[u8]) -> Answer {
         let Lent { table, records, widths } = lent;
+        let at = slot as usize;
+        let before = table.get(at).copied().unwrap_or(Entry::FRESH);
         let lent = Lent { table: &mut *table, records: &mut *records, widths };
         let mut answer = self.hub.submit(lent, slot, key, number, part);
-        let at = slot as usize;
         match self.fault {
             Fault::RecordByte if answer.second > 0 => {
                 records[AREA * at + table[at].state.used as usize - 1] ^= 1;
@@ -100,6 +104,12 @@ impl<B: Backend> Backend for Broken<B> {
                 records[AREA * at + AREA - 1] ^= 1;
             }
             Fault::AddedOff if answer.is_done() => answer.second += 1,
+            Fault::InkRoom if answer.is_done() => {
+                if let Some(start) = no_room(part, &before) {
+                    table[at] = before;
+                    answer = Answer::at(Code::Room.into(), start);
+                }
+            }
             Fault::Order if answer.is_done() && self.before > slot => records[AREA * at] ^= 1,
             Fault::Retaken if answer.code == Code::Taken as u32 => table[at].next += 1,
             _ => {}
@@ -162,4 +172,37 @@ fn is_second(part: &[u8], answer: Answer) -> bool {
         [(5, SIA), (6, STO), (7, DIR), (7, DBR)].contains(&(length, kind & !CHAIN))
     });
     second && answer.code == Code::Value as u32
+}
+
+/// Where a rule with no ink finds the area full, which is nothing to it, in an accepted part.
+fn no_room(part: &[u8], entry: &Entry) -> Option<usize> {
+    let Entry { descriptor, state, .. } = entry;
+    // Where rules may be hidden they may need no room in any hub.
+    if state.used as usize + HEADER <= AREA || descriptor.hidden != 0 {
+        return None;
+    }
+    let (mut start, mut chained) = (0, state.chain != 0);
+    while start < part.len() {
+        let (element, size) = read(&part[start..], chained).ok()?;
+        chained = match element {
+            Element::FreeRun(_) => false,
+            Element::Sequence { function: DIR | DBR, parameters, .. }
+                if !has_ink(parameters.bytes, descriptor) =>
+            {
+                return Some(start);
+            }
+            Element::Sequence { chains, .. } => chains,
+        };
+        start += size;
+    }
+    None
+}
+
+/// Whether neither the length of an accepted rule nor its width is 0.
+fn has_ink(parameters: &[u8], d: &Descriptor) -> bool {
+    match *parameters {
+        [0, 0, ..] => false,
+        [_, _, 0, width, 0] => width != 0,
+        _ => d.rule != 0,
+    }
 }
