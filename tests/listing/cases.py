@@ -64,10 +64,10 @@ def both(name: str, kind: int, parameters: str, why: str, lines: str, end: tuple
 
 
 # Pieces that many cases share; STILL makes every character advance by 0.
-C1, C1C2, LINE, RULE = text("C1"), text("C1C2"), alone(BLN), alone(DIR, "0000")
+C1, C1C2, LINE, RULE = text("C1"), text("C1C2"), alone(BLN), alone(DIR, "0001")
 AT_100 = alone(AMB, "0064") + alone(AMI, "0064")
 STILL = alone(SIA, "009001")
-ONE_RULE = "R 0 0 0 65287 0 14\n"
+ONE_RULE = "R 0 0 0 65287 1 14\n"
 
 # Each of the nineteen, in both forms of TYPE, with a text that shows what it did.
 EVERY_SEQUENCE = [
@@ -123,10 +123,15 @@ OPTIONAL_FORMS = [
     Case("bsu-ends", alone(BSU, "01") + C1 + alone(ESU, "01") + alone(BSU, "7F") + C1, "ids 01 and 7F; the second stays open"),
     Case("dir-width", alone(DIR, "05A0001400"), "DIR of LENGTH 7: width 20", "R 0 0 0 65287 1440 20\nEND 0 0 1 16\n"),
     Case("dir-default-width", alone(DIR, "05A0FFFFFF"), "width FFFFFF is the descriptor's"),
-    Case("dir-no-length", alone(DIR, "0000"), "a rule of length 0 has its record", "R 0 0 0 65287 0 14\nEND 0 0 1 16\n"),
+    Case("dir-no-length", alone(DIR, "0000"), "a rule of length 0 has no ink: an element without a record", "END 0 0 1 0\n"),
+    Case("dir-no-width", alone(DIR, "000A000000"), "the same of width 0", "END 0 0 1 0\n"),
     Case("dbr-width", alone(DBR, "05A000C000"), "DBR of LENGTH 7: the greatest width"),
     Case("dbr-default-width", alone(DBR, "05A0FFFFFF"), "width FFFFFF is the descriptor's"),
-    Case("dbr-no-width", alone(DBR, "000A000000"), "a rule of width 0 has its record", "R 0 0 1 65287 10 0\nEND 0 0 1 16\n"),
+    Case("dbr-no-length", alone(DBR, "0000FFFFFF"), "DBR of length 0", "END 0 0 1 0\n"),
+    Case("dbr-no-width", alone(DBR, "000A000000"), "DBR of width 0", "END 0 0 1 0\n"),
+    Case("rule-least-ink", alone(DIR, "0001000100"), "length 1 and width 1 are ink", "R 0 0 0 65287 1 1\nEND 0 0 1 16\n"),
+    Case("no-ink-chained", chain((DIR, "000A"), (DIR, "0000"), (DBR, "000A000000"), (DBR, "000B")), "two rules with no ink between two with it",
+         "R 0 0 0 65287 10 14\nR 0 0 1 65287 11 14\nEND 0 0 4 32\n"),
     Case("trn-empty", alone(TRN), "TRN of no text: an element without a record", "END 0 0 1 0\n"),
     Case("trn-prefix-inside", alone(TRN, "2BD3") + C1, "2B D3 inside TRN are text", t(0, 0, "2BD3") + t(288, 0, "C1") + "END 432 0 2 35\n"),
     Case("trn-longest", alone(SIA, "009001") + alone(TRN, bytes(range(253)).hex()), "TRN of 253 bytes at an advance of 0, all digits of the hex"),
@@ -189,7 +194,7 @@ POSITIONS = [
     Case("space-fits", alone(AMI, "2F41") + alone(SVI, "008F") + text("40"), "a narrow one ends on it"),
     Case("adjustment-past", alone(AMI, "2F40") + alone(SIA, "0FFF") + C1, "the last adjustment may leave the sheet",
          t(12096, 0, "C1", adjustment=4095) + "END 16335 0 3 17\n"),
-    Case("rule-edge-i", alone(AMI, "2FD0") + alone(DIR, "0000"), "a rule of length 0 on the right edge"),
+    Case("rule-edge-i", alone(AMI, "2FCF") + alone(DIR, "0001"), "a rule that ends on the right edge", "R 12239 0 0 65287 1 14\nEND 12239 0 2 16\n"),
     Case("rule-past-i", alone(AMI, "2FD0") + alone(DIR, "0001"), "a rule past the right edge", "REFUSED 27 6\n"),
     Case("rule-edge-b", alone(AMB, "3DD2") + alone(DIR, "0001"), "a rule whose width ends on the lower edge",
          "R 0 15826 0 65287 1 14\nEND 0 15826 2 16\n"),
@@ -198,6 +203,10 @@ POSITIONS = [
          "R 12226 0 1 65287 15840 14\nEND 12226 0 2 16\n"),
     Case("dbr-past-i", alone(AMI, "2FC3") + alone(DBR, "0001"), "its width passes the right edge", "REFUSED 27 6\n"),
     Case("dbr-past-b", alone(AMB, "0001") + alone(DBR, "3DE0"), "its length passes the lower edge", "REFUSED 27 6\n"),
+    Case("no-ink-edge", alone(AMI, "2FD0") + alone(AMB, "3DD2") + alone(DIR, "0000"), "a rule with no ink in the lower right corner", "END 12240 15826 3 0\n"),
+    Case("no-ink-past-i", alone(AMI, "2FD1") + alone(DIR, "0000"), "a rule of length 0 past the right edge is outside all the same", "REFUSED 27 6\n"),
+    Case("no-ink-past-b", alone(AMB, "3DD3") + alone(DIR, "0000"), "one whose width passes the lower edge", "REFUSED 27 6\n"),
+    Case("no-ink-past-length", alone(AMB, "0001") + alone(DBR, "3DE0000000"), "a rule of width 0 whose length passes it", "REFUSED 27 6\n"),
     Case("rule-negative", alone(RMI, "FFFF") + alone(DIR, "0005"), "a rule that starts at I = -1", "REFUSED 27 6\n"),
 ]
 
@@ -345,6 +354,8 @@ ROOMS = [
     Case("area-past-rps", STILL + alone(RPS, "7FFFC1"), "the greatest count", "REFUSED 29 7\n"),
     Case("area-past-chain", chain(*[(DIR, "0001")] * 257), "257 rules in a chain: 2 bytes and 4 for each of 256 before the last", "REFUSED 29 1026\n"),
     Case("area-full-silent", RULE * 256 + alone(BLN) + alone(TRN), "a full area takes elements without records"),
+    Case("area-full-no-ink", RULE * 256 + alone(DIR, "0000") + alone(DBR, "000A000000"), "and rules with no ink", ONE_RULE * 256 + "END 0 0 258 4096\n"),
+    Case("area-past-no-ink", RULE * 256 + alone(DIR, "0000") + RULE, "behind one of which a rule with ink has no room", "REFUSED 29 1542\n"),
     Case("long-8192", alone(NOP) * 2047 + text("C1C2C3C4"), "the longest part", t(0, 0, "C1C2C3C4") + "END 576 0 2048 20\n"),
     Case("long-8192-cut", alone(NOP) * 2047 + text("C1C2C32B"), "a fault at the longest part's last byte", "REFUSED 20 8191\n"),
     Case("long-8192-class", alone(NOP) * 2047 + text("C1C22BC1"), "its last byte is the one after X'2B'", "REFUSED 21 8191\n"),
