@@ -142,12 +142,13 @@ static void mutate(unsigned char *bytes, size_t size) {
     }
 }
 
-/* A rule alone: where 16 bytes are left, its record ends with the area. */
+/* A rule alone: where 16 bytes are left, the record of one with ink ends with the area; one with no ink has none. */
 static size_t a_rule(unsigned char *bytes, int chained) {
-    static const unsigned char RULE[] = {0x2B, 0xD3, 0x04, 0xE4, 0x00, 0x01};
+    unsigned char length = !once_in(16), width = !once_in(16);
+    const unsigned char rule[] = {0x2B, 0xD3, 0x07, 0xE4, 0x00, length, 0x00, width, 0x00};
     size_t from = chained ? 2 : 0;
-    memcpy(bytes, RULE + from, sizeof RULE - from);
-    return sizeof RULE - from;
+    memcpy(bytes, rule + from, sizeof rule - from);
+    return sizeof rule - from;
 }
 
 static size_t grown(unsigned char *bytes, size_t size, int chained) {

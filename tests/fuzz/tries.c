@@ -16,7 +16,7 @@ static const char *const NAMES[] = {"open", "submit", "close", "count", "interpr
 
 static lend table, records, area, widths, part;
 static enum side guarded;
-static int around_changes, within_changes, answer_changes, place_changes, place_leaves; /* wrong on purpose */
+static int around_changes, within_changes, answer_changes, place_changes, place_leaves, record_empties; /* wrong on purpose */
 
 /* What was lent, as it must be after the call. */
 static halviruso_entry old_table[MOST_ENTRIES];
@@ -59,6 +59,7 @@ void tries_start(enum side side, const char *wrong) {
     answer_changes = strcmp(wrong, "answer") == 0;
     place_changes = strcmp(wrong, "place") == 0;
     place_leaves = strcmp(wrong, "beyond") == 0;
+    record_empties = strcmp(wrong, "empty") == 0;
     signal(SIGSEGV, on_fault);
     signal(SIGBUS, on_fault);
 }
@@ -149,9 +150,27 @@ static void allow_entry(size_t slot) {
     memcpy(&old_table[slot], table.at + slot * ENTRY, ENTRY);
 }
 
-/* These record bytes may be others now. */
+static uint32_t two(const unsigned char *bytes) {
+    return bytes[0] | (uint32_t)bytes[1] << 8;
+}
+
+/* How long the record is that these bytes begin with; 0 where it isn't whole, or has nothing to draw: no character, or no ink. */
+static size_t drawn(const unsigned char *bytes, size_t left) {
+    size_t length = left < 16 ? 0 : two(bytes);
+    int is_text = length > 16 && two(bytes + 2) == 1;
+    int is_rule = length == 16 && two(bytes + 2) == 2 && two(bytes + 12) > 0 && two(bytes + 14) > 0;
+    return length <= left && (is_text || is_rule) ? length : 0;
+}
+
+/* These record bytes may be others now: records, each with something to draw. */
 static void allow_records(const lend *l, unsigned char *old, size_t from, size_t added) {
     memcpy(old + from, l->at + from, added);
+    if (record_empties && added > 0)
+        memcpy(old + from, (unsigned char[]){16, 0, 2, 0, 0, 0, 0, 0, 0, 0, 0, 0, 0, 0, 14, 0}, 16);
+    for (size_t at = 0, size; at < added; at += size) {
+        size = drawn(old + from + at, added - at);
+        expect(size > 0, "a record that isn't whole, or is empty");
+    }
 }
 
 /* Nothing else of what was lent changed, nor the bytes around it. */
@@ -164,8 +183,9 @@ static void expect_kept(const lend *l, const void *old) {
     expect(lend_holds(l, old), "something lent changed that shouldn't");
 }
 
+/* Often the last one, whose records end with the buffer. */
 static uint32_t a_slot(void) {
-    return once_in(12) ? any() : below(17);
+    return once_in(12) ? any() : once_in(4) ? HALVIRUSO_SLOTS - 1 : below(17);
 }
 
 static uint32_t key_of(uint32_t slot) {
