@@ -77,7 +77,7 @@ typedef struct halviruso_descriptor {
     uint32_t direction;      /* of the adjustment: 0 added, 1 taken off */
     uint32_t font;           /* 0..3 */
     uint32_t colour;         /* 0x0000, 0xFF00 or 0xFF07 */
-    uint32_t rule;           /* rule width, 0..192 */
+    uint32_t rule;           /* rule width, 0..192; with 0 a rule that gives none of its own has no ink, and no record */
     uint32_t hidden;         /* suppression that hides, 1..127; 0: none */
 } halviruso_descriptor;
 

@@ -265,6 +265,30 @@ static void late_requests(void)
     }
 }
 
+/* A rule of no length, or whose width, given or the descriptor's, is 0: an element that leaves no byte, in a full area too. */
+static void rules_with_no_ink(void)
+{
+    static const uint8_t BARE[] = {0x2B, 0xD3, 0x04, 0xE5, 0, 0, 0x07, 0xE6, 0, 9, 0, 0, 0}, PLAIN[] = {0x2B, 0xD3, 0x04, 0xE4, 0, 9};
+    static const uint32_t FILLED[] = {0, HALVIRUSO_AREA};
+    halviruso_descriptor thin = UNLIKE;
+    halviruso_entry *entry = &lent.table.entries[9];
+
+    thin.rule = 0;
+    for (size_t at = 0; at < 2; at++) {
+        start();
+        CHECK(halviruso_open(lent.table.entries, HALVIRUSO_SLOTS, 9, 1, thin).code == HALVIRUSO_DONE);
+        entry->state.used = FILLED[at];
+        kept = lent;
+        CHECK(is(submit(9, 1, 1, BARE, sizeof BARE), HALVIRUSO_DONE, 2, 0));
+        CHECK(is(submit(9, 1, 2, PLAIN, sizeof PLAIN), HALVIRUSO_DONE, 1, 0));
+        CHECK(entry->next == 3);
+        entry->next = 1;
+        CHECK(untouched());
+        entry->descriptor.rule = 1;
+        CHECK(submit(9, 1, 1, PLAIN, sizeof PLAIN).code == (at == 0 ? HALVIRUSO_DONE : HALVIRUSO_NO_ROOM));
+    }
+}
+
 /* A part of 4 GB and one byte, none of them ever touched: a length cut to 32 bits would be 1, and the part a character. */
 static void lengths_are_not_cut(void)
 {
@@ -290,6 +314,7 @@ int main(void)
     refusals_of_the_direct_call();
     refusals_point_at_a_byte();
     late_requests();
+    rules_with_no_ink();
     lengths_are_not_cut();
     printf("%u checks, %u wrong\n", checks, wrong);
     return wrong == 0 ? 0 : 1;
