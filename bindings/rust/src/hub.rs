@@ -205,6 +205,16 @@ mod tests {
     }
 
     #[test]
+    fn a_rule_with_no_ink_is_an_element_and_has_no_record() {
+        let mut hub = opened();
+        let before = hub.clone();
+        let answer = hub.submit(&[144; WIDTHS], 15, 1, 2, b"\x2B\xD3\x04\xE4\x00\x00");
+        assert_eq!((answer.code, answer.first, answer.second), (Code::DONE, 1, 0));
+        assert_eq!(hub.record_bytes(), before.record_bytes());
+        assert_eq!(hub.records(15).count(), 2);
+    }
+
+    #[test]
     fn a_rule_s_record_and_the_entry_are_seen() {
         let hub = opened();
         let rule = Record::Rule { i: 0, b: 0, axis: 0, colour: 0xFF07, length: 1_440, width: 14 };

@@ -28,7 +28,7 @@ pub enum Record<'a> {
         /// The characters.
         characters: &'a [u8],
     },
-    /// A rule.
+    /// A rule. The hub writes none with a length or a width of 0; memory kept from before may have some.
     Rule {
         /// I of its start.
         i: i16,

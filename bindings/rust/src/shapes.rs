@@ -35,7 +35,7 @@ pub struct Descriptor {
     pub font: u32,
     /// Colour: 0x0000, 0xFF00 or 0xFF07.
     pub colour: u32,
-    /// Rule width, 0..192.
+    /// Rule width, 0..192; with 0 a rule that gives none of its own has no ink, and no record.
     pub rule: u32,
     /// The suppression that hides, 1..127; 0: none.
     pub hidden: u32,
