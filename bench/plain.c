@@ -157,6 +157,8 @@ static inline uint32_t draw(work *w, const uint8_t *p, uint32_t n, uint32_t axis
         return 0;
     if (!on_sheet(w->i, axis ? width : length, w->d->size.i) || !on_sheet(w->b, axis ? length : width, w->d->size.b))
         return 27;
+    if (length == 0 || width == 0) /* no ink */
+        return 0;
     if (w->s.used + 16 > HALVIRUSO_AREA)
         return 29;
     head(w->records + w->s.used, 16, 2, w, axis, w->s.colour, length, width);
