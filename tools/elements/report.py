@@ -1,7 +1,7 @@
 """The elements in words, one a line; and the bytes around a refusal, the one that it names and its element underlined."""
 from ptoca.letters import letter, line
 from ptoca.refusals import PLACED, reason
-from ptoca.sequences import parameter_at, sequence_of, split
+from ptoca.sequences import RULE, parameter_at, sequence_of, split
 from ptoca.words import plural
 
 from elements.shapes import ABSENT
@@ -63,12 +63,19 @@ def record(raw):
     return f'rule record at {i}, {b}: {"DBR" if first else "DIR"} of {third} by {fourth}'
 
 
+def presents(element):
+    """Text and rules: only these leave records, if they are shown at all."""
+    sequence = sequence_of(element)
+    return sequence is None or sequence.text is not None or sequence.parameters is RULE
+
+
 def effect(step):
-    """What the element did: its record, and what it moved or set."""
+    """What the element did: its record, or that it has none, and what it moved or set."""
     if step.answer.code != 0:
         return f'REFUSED with {step.answer.code}: {reason(step.answer.code)}'
-    did = [record(raw) for raw in apart(step.records)] + changes(step.before, step.after)
-    return '; '.join(did) if did else 'nothing changes'
+    records = [record(raw) for raw in apart(step.records)]
+    did = records or (['no record'] if presents(step.element) else [])
+    return '; '.join(did + changes(step.before, step.after)) or 'nothing changes'
 
 
 def refusal(answer, element=None):
