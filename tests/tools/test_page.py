@@ -91,6 +91,11 @@ class Picture(unittest.TestCase):
         self.assertEqual(len(having(group(tree, 'items'), 'path', 'bare')), 1)
         self.assertEqual([line.get('x1') for line in having(group(tree, 'guides'), 'line', 'margin')], ['720'])
 
+    def test_of_a_rule_with_no_ink_nothing_is_drawn(self):
+        tree = of_text(paths.text('..', 'listing', 'no-ink-chained.out'))
+        self.assertEqual([node.get('height') for node in having(group(tree, 'items'), 'rect', 'rule')], ['14', '11'])
+        self.assertEqual((len(group(tree, 'items')), having(tree, 'path', 'bare')), (2, []))
+
     def test_the_viewbox_is_in_units_and_the_size_in_inches(self):
         tree = drawn('example')
         left, top, width, height = map(int, tree.get('viewBox').split())

@@ -55,7 +55,7 @@ class Empty(unittest.TestCase):
     def test_parts(self):
         self.assert_note('A refused part places nothing.', drawn('outside', part=PART))
         self.assert_note('The part is empty: it has no element.', part(0, 0))
-        tail = ' Moves and settings leave none, nor does text that is suppressed or empty.'
+        tail = ' Moves and settings leave none, nor do text and rules that are suppressed, text of no characters and rules with no ink.'
         self.assert_note('The one element leaves no record.' + tail, part(6, 1))
         self.assert_note('None of the 1,200 elements leaves a record.' + tail, part(7000, 1200))
 
@@ -98,7 +98,7 @@ class Legend(unittest.TestCase):
         self.assertEqual(self.legend(job(i=-1, state_margin=720)), ['the inline margin'])
         self.assertEqual(self.legend(job(i=-1, state_margin=12240)), [])
         self.assertEqual(self.legend(part(1, 1, A_BOX)), [self.END, self.CORNERS, 'a byte that is no letter in code page 500'])
-        self.assertEqual(self.legend(part(1, 1, A_BARE_RULE)), [self.END, self.CORNERS, 'a rule with no length or no width'])
+        self.assertEqual(self.legend(part(1, 1, A_BARE_RULE)), [self.END, self.CORNERS, 'a rule with no ink, recorded by an earlier edition'])
 
     def test_each_has_a_sign_of_its_kind(self):
         self.assertEqual(self.signs(job(A_BOX + A_BARE_RULE, state_margin=720)), ['end', 'corner', 'margin', 'box', 'bare'])

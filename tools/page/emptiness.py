@@ -7,7 +7,7 @@ def of_part(shown):
     if count == 0:
         return 'The part is empty: it has no element.'
     none = 'The one element leaves no record.' if count == 1 else f'None of the {count:,} elements leaves a record.'
-    return f'{none} Moves and settings leave none, nor does text that is suppressed or empty.'
+    return f'{none} Moves and settings leave none, nor do text and rules that are suppressed, text of no characters and rules with no ink.'
 
 
 def of_job(shown):

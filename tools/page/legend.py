@@ -8,7 +8,7 @@ MEANINGS = {
     'corner': 'around all that was placed',
     'margin': 'the inline margin',
     'box': 'a byte that is no letter in code page {}',
-    'bare': 'a rule with no length or no width',
+    'bare': 'a rule with no ink, recorded by an earlier edition',
 }
 
 

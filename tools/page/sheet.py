@@ -88,7 +88,7 @@ def text(item, widths, faces, code_page):
 
 
 def rule(item):
-    """A bar; one with no extent along I or B makes no mark, and is shown dashed."""
+    """A bar; one with no ink, which earlier editions recorded too, is shown dashed."""
     along, down = bar(item)
     title = svg.tag('title', {}, svg.escaped(said(item)))
     if along == 0 or down == 0:
