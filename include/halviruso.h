@@ -141,8 +141,12 @@ uint32_t halviruso_count(const halviruso_entry *table, size_t table_length);
 halviruso_interpreted halviruso_interpret(const uint8_t *part, size_t part_length, const uint16_t *widths, size_t widths_length, uint8_t *area,
                                           size_t area_length, halviruso_descriptor descriptor, halviruso_state state);
 
-/* Checks one part alone: a sheet of 12,240 by 15,840, every character 144 wide. The code and no more: 0, or 19 to 29. */
+/* Checks one part alone: a sheet of 12,240 by 15,840, every character 144 wide, eight lines to the inch. The code and no more: 0, or 19 to 29. */
 uint32_t halviruso_check(const uint8_t *part, size_t part_length);
+
+/* The same with a baseline increment of the caller's, 0..32,767: 180 is the one above, 240 six lines to the inch. 0, 19 to 29; 15, whatever the part,
+ * for an increment above 32,767. */
+uint32_t halviruso_check_at(const uint8_t *part, size_t part_length, uint32_t increment);
 
 #ifdef __cplusplus
 }

@@ -5,8 +5,8 @@ import re
 
 ROOT = os.path.dirname(os.path.dirname(os.path.dirname(os.path.abspath(__file__))))
 # where each crate's rows are, and the theorems that hold them to the definitions
-ROWS = {'part': 'part/specs/Sheets', 'hub': 'hub/specs/Trials'}
-THEOREMS = {'sheets-hold', 'further-hold', 'read-back-hold', 'lyings-hold', 'trials-hold'}
+ROWS = {'part': 'part/specs/Sheets', 'hub': 'hub/specs/Trials', 'host': 'host/specs/Increments'}
+THEOREMS = {'sheets-hold', 'further-hold', 'read-back-hold', 'lyings-hold', 'trials-hold', 'sheets-check', 'increments-hold'}
 # the paper's own rows take longest to compute, and few changes need them
 SLOW = re.compile(r'^pub sheets-hold :.*?\n\n', re.M | re.S)
 USE = re.compile(r'Rattle·(\w+)(?:·specs)?\.specs\.(?:declared\.(\w+)|(\w+))')

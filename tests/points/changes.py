@@ -642,6 +642,24 @@ REQUESTS = [
     ('if isTable table then openJobs table else 0', 'openJobs table', 'tables of any length are counted'),
 ]
 
+CHECKED = [
+    ('if ltb 32767 increment then 15', 'if ltb 32766 increment then 15', 'check: 32,767 is out of range'),
+    ('if ltb 32767 increment then 15', 'if ltb 32768 increment then 15', 'check: 32,768 is in range'),
+    ('if ltb 32767 increment then 15', 'if ltb 32767 increment then 12', 'check: 12 for an increment out of range'),
+    ('if ltb 32767 increment then 15', 'if ltb 32767 increment then 19', 'check: 19 for an increment out of range'),
+    ('if ltb 32767 increment then 15\n    else', '', 'check: an increment out of range is not told'),
+    ('(lined increment) (begun increment)', '(lined 240) (begun increment)', 'check: the descriptor has 240'),
+    ('(lined increment) (begun increment)', '(lined increment) (begun 240)', 'check: a job begins with 240'),
+    ('replicate 1024 144', 'replicate 1024 145', 'check: characters are 145 wide'),
+    ('replicate 1024 144', 'replicate 1024 143', 'check: characters are 143 wide'),
+    ('replicate 1024 144', 'replicate 1023 144', 'check: a width is missing'),
+    ('replicate 4096 0', 'replicate 4095 0', 'check: an area of 4,095'),
+    ('.answer .code', '.answer .first', 'check: the first number instead of the code'),
+    ('checked = checkedAt 180', 'checked = checkedAt 240', 'check: six lines to the inch'),
+    ('checked = checkedAt 180', 'checked = checkedAt 181', 'check: 181 units a line'),
+    ('checked = checkedAt 180', 'checked = checkedAt 179', 'check: 179 units a line'),
+]
+
 CHANGES = {
     'part/specs/Numbers': NUMBERS,
     'part/specs/Checks': CHECKS,
@@ -658,4 +676,5 @@ CHANGES = {
     'part/specs/Part': PART,
     'hub/specs/Entries': ENTRIES,
     'hub/specs/Requests': REQUESTS,
+    'host/specs/Checked': CHECKED,
 }
