@@ -32,24 +32,27 @@ lib: build/libhalviruso.a
 build/libhalviruso.a: $(call code,part hub host) tools/archive tools/prove tools/x86_64.sh
 	@tools/archive
 
-# target/bin/listing: the listing program
-listing: target/bin/listing
-target/bin/listing: $(call code,part listing)
-	@tools/prove check listing
+# target/bin/listing, at an increment of 180, and target/bin/listing240: the listing programs
+listing: target/bin/listing target/bin/listing240
+target/bin/listing target/bin/listing240 &: $(call code,part lister listing listing240)
+	@tools/prove check listing listing240
 
-# build/page.svg: the sheet as the listing of a part has it; a refusal is marked on the part's bytes
+# eight lines to the inch
+INCREMENT = 180
+
+# build/page.svg: the sheet as the listing of a part at INCREMENT, 180 or 240, has it; a refusal is marked on the part's bytes
 page:
 	@mkdir -p build && rm -f build/page.listing build/page.svg
 	@$(MAKE) -s listing
-	@tools/list < "$(PART)" > build/page.new
+	@tools/list '$(INCREMENT)' < "$(PART)" > build/page.new
 	@mv build/page.new build/page.listing
-	@python3 tools/page build/page.listing --part "$(PART)" --output build/page.svg
-	@echo "build/page.svg shows $(PART)"
+	@python3 tools/page build/page.listing --increment '$(INCREMENT)' --part "$(PART)" --output build/page.svg
+	@echo "build/page.svg shows $(PART) at an increment of $(INCREMENT)"
 
 # a part as its elements, by what the library answers for each
 elements:
 	@tools/elements/build
-	@. tools/x86_64.sh && python3 tools/elements --run "$$RUN" "$(PART)"
+	@. tools/x86_64.sh && python3 tools/elements --run "$$RUN" --increment '$(INCREMENT)' "$(PART)"
 
 # build/replay: replay scripts on the proved library; build/replay --peer: on the second implementation
 replay:
@@ -84,12 +87,12 @@ help:
 	@echo 'make sheets             the table of "Sheets to try", by the compiled interpreter'
 	@echo 'make points             one-point changes to the rule book: its rows refuse each; POINTS=Ranges tries one file of it'
 	@echo 'make lib                build/libhalviruso.a, for hosts in C, C++ and Rust'
-	@echo 'make listing            target/bin/listing'
-	@echo 'make page PART=file     build/page.svg, the sheet of a part'
+	@echo 'make listing            target/bin/listing, and target/bin/listing240 for an increment of 240'
+	@echo 'make page PART=file     build/page.svg, the sheet of a part; INCREMENT=240 for that increment'
 	@echo 'make replay             build/replay, which runs scripts of requests: docs/REPLAY.md'
 	@echo 'make soak SECONDS=n     compares library and second implementation for n seconds from a new seed'
 	@echo 'make bench              times beside the second implementation and plain C'
-	@echo 'make elements PART=file the elements of a part'
+	@echo 'make elements PART=file the elements of a part; INCREMENT=n for another increment than 180'
 
 clean:
 	rm -rf target build
