@@ -1,6 +1,6 @@
-"""The cases of the listing program: a name, the part's bytes, why it is here, and for some the listing written by hand.
+"""The cases of the listing programs: a name, the part's bytes, why it is here, and for some the listing written by hand.
 
-The sheet is 12,240 by 15,840, the baseline increment 240, the rule width 14, the colour X'FF07' = 65287; every character is 144 wide.
+The sheet is 12,240 by 15,840, the baseline increment 240 or 180, the rule width 14, the colour X'FF07' = 65287; every character is 144 wide.
 """
 
 from typing import NamedTuple, Optional
@@ -15,12 +15,17 @@ DIR, DBR, TRN, RPS, NOP = 0xE4, 0xE6, 0xDA, 0xEE, 0xF8
 
 
 class Case(NamedTuple):
-    """One part and why it is tried; `hand` is its listing from document 01, without the PART line."""
+    """One part and why it is tried; `hand` is its listing from documents 01 and 02 at 240, without the PART line, and `eight` that at 180 if it is another."""
 
     name: str
     part: bytes
     why: str
     hand: Optional[str] = None
+    eight: Optional[str] = None
+
+    def at(self, increment: int) -> Optional[str]:
+        """The listing by hand at an increment."""
+        return self.eight if increment == 180 and self.eight is not None else self.hand
 
 
 def sequence(kind: int, parameters: str = "") -> bytes:
@@ -51,16 +56,20 @@ def t(i: int, b: int, characters: str, font: int = 0, colour: int = 65287, adjus
     return f"T {i} {b} {font} {colour} {adjustment} {space} {characters}\n"
 
 
-def both(name: str, kind: int, parameters: str, why: str, lines: str, end: tuple, before: bytes = b"", after: bytes = b"") -> list:
+def both(name: str, kind: int, parameters: str, why: str, lines: str, end: tuple, before: bytes = b"", after: bytes = b"",
+         eight: Optional[tuple] = None) -> list:
     """One sequence with an even TYPE, and with an odd one before a chained NOP, which is one element more.
 
-    `lines` and `end` (I, B, elements, record bytes) are the listing of the first.
+    `lines` and `end` (I, B, elements, record bytes) are the listing of the first; `eight` has both at 180.
     """
-    i, b, elements, added = end
-    return [
-        Case(f"{name}-even", before + alone(kind, parameters) + after, f"{why}; TYPE even", f"{lines}END {i} {b} {elements} {added}\n"),
-        Case(f"{name}-odd", before + chain((kind, parameters), (NOP,)) + after, f"{why}; TYPE odd", f"{lines}END {i} {b} {elements + 1} {added}\n"),
-    ]
+    def listed(lines: str, end: tuple, more: int) -> str:
+        i, b, elements, added = end
+        return f"{lines}END {i} {b} {elements + more} {added}\n"
+
+    def case(form: str, part: bytes, more: int) -> Case:
+        return Case(f"{name}-{form}", before + part + after, f"{why}; TYPE {form}", listed(lines, end, more), eight and listed(*eight, more))
+
+    return [case("even", alone(kind, parameters), 0), case("odd", chain((kind, parameters), (NOP,)), 1)]
 
 
 # Pieces that many cases share; STILL makes every character advance by 0.
@@ -75,8 +84,10 @@ EVERY_SEQUENCE = [
     *both("amb", AMB, "02D0", "AMB to 720", t(0, 720, "C1"), (144, 720, 2, 17), after=C1),
     *both("rmi", RMI, "FFF6", "RMI by -10", t(90, 100, "C1"), (234, 100, 4, 17), before=AT_100, after=C1),
     *both("rmb", RMB, "FFF6", "RMB by -10", t(100, 90, "C1"), (244, 90, 4, 17), before=AT_100, after=C1),
-    *both("bln", BLN, "", "BLN: I to the margin, B by 240", t(0, 0, "C1") + t(0, 240, "C1"), (144, 240, 3, 34), before=C1, after=C1),
-    *both("sim", SIM, "0032", "SIM 50, seen at the next line", t(50, 240, "C1"), (194, 240, 3, 17), after=LINE + C1),
+    *both("bln", BLN, "", "BLN: I to the margin, B by the increment", t(0, 0, "C1") + t(0, 240, "C1"), (144, 240, 3, 34), before=C1, after=C1,
+          eight=(t(0, 0, "C1") + t(0, 180, "C1"), (144, 180, 3, 34))),
+    *both("sim", SIM, "0032", "SIM 50, seen at the next line", t(50, 240, "C1"), (194, 240, 3, 17), after=LINE + C1,
+          eight=(t(50, 180, "C1"), (194, 180, 3, 17))),
     *both("sbi", SBI, "0032", "SBI 50, seen at the next line", t(0, 50, "C1"), (144, 50, 3, 17), after=LINE + C1),
     *both("sia", SIA, "000A", "SIA 10 is added after every character", t(0, 0, "C1C2", adjustment=10), (308, 0, 2, 18), after=C1C2),
     *both("svi", SVI, "000A", "SVI 10 is the width of X'40'", t(0, 0, "C140C1", space=10), (298, 0, 2, 19), after=text("C140C1")),
@@ -116,9 +127,9 @@ OPTIONAL_FORMS = [
     Case("stc-precision", alone(STC, "00005A") + C1, "STC of LENGTH 5: the fifth byte is ignored", t(0, 0, "C1", colour=0) + "END 144 0 2 17\n"),
     Case("stc-rule", alone(STC, "FF00") + alone(DBR, "000A"), "a rule has the colour too", "R 0 0 1 65280 10 14\nEND 0 0 2 16\n"),
     Case("sto-defaults", alone(STO, "FFFF2D00") + alone(STO, "0000FFFF") + alone(STO, "FFFFFFFF"), "all ones in each half of STO"),
-    Case("sim-default", alone(SIM, "0032") + alone(SIM, "FFFF") + LINE, "FFFF is the descriptor's margin"),
-    Case("sim-greatest", alone(SIM, "7FFF") + LINE, "margin 7FFF: BLN moves past the sheet, which is no fault", "END 32767 240 2 0\n"),
-    Case("sbi-default", alone(SBI, "0032") + alone(SBI, "FFFF") + LINE, "FFFF is the descriptor's increment", "END 0 240 3 0\n"),
+    Case("sim-default", alone(SIM, "0032") + alone(SIM, "FFFF") + LINE, "FFFF is the descriptor's margin", "END 0 240 3 0\n", "END 0 180 3 0\n"),
+    Case("sim-greatest", alone(SIM, "7FFF") + LINE, "margin 7FFF: BLN moves past the sheet, which is no fault", "END 32767 240 2 0\n", "END 32767 180 2 0\n"),
+    Case("sbi-default", alone(SBI, "0032") + alone(SBI, "FFFF") + LINE, "FFFF is the descriptor's increment", "END 0 240 3 0\n", "END 0 180 3 0\n"),
     Case("sbi-zero", alone(SBI, "0000") + LINE + LINE, "an increment of 0"),
     Case("bsu-ends", alone(BSU, "01") + C1 + alone(ESU, "01") + alone(BSU, "7F") + C1, "ids 01 and 7F; the second stays open"),
     Case("dir-width", alone(DIR, "05A0001400"), "DIR of LENGTH 7: width 20", "R 0 0 0 65287 1440 20\nEND 0 0 1 16\n"),
@@ -153,8 +164,8 @@ READINGS = [
     Case("run-of-zeros", bytes(3), "X'00' is a character like any other", t(0, 0, "000000") + "END 432 0 1 19\n"),
     Case("run-of-d3", text("D3D32A2CFF"), "a run ends at 2B only"),
     Case("runs-between", C1 + alone(NOP) + text("C2") + alone(NOP) + text("C3"), "a run on each side of a sequence"),
-    Case("chain-open-at-end", PREFIX + sequence(BLN | 1), "a chain may stay open at the part's end", "END 0 240 1 0\n"),
-    Case("chain-of-bln", chain((BLN,), (BLN,), (BLN,)), "three in a chain", "END 0 720 3 0\n"),
+    Case("chain-open-at-end", PREFIX + sequence(BLN | 1), "a chain may stay open at the part's end", "END 0 240 1 0\n", "END 0 180 1 0\n"),
+    Case("chain-of-bln", chain((BLN,), (BLN,), (BLN,)), "three in a chain", "END 0 720 3 0\n", "END 0 540 3 0\n"),
     Case("chain-length-2b", PREFIX + sequence(NOP | 1) + sequence(NOP, "AA" * 41) + C1, "in a chain X'2B' is a LENGTH of 43",
          t(0, 0, "C1") + "END 144 0 3 17\n"),
     Case("chain-no-prefix", PREFIX + sequence(BLN | 1) + alone(BLN), "in a chain 2B D3 is LENGTH 43 and AMB, which takes 4",
@@ -208,6 +219,22 @@ POSITIONS = [
     Case("no-ink-past-b", alone(AMB, "3DD3") + alone(DIR, "0000"), "one whose width passes the lower edge", "REFUSED 27 6\n"),
     Case("no-ink-past-length", alone(AMB, "0001") + alone(DBR, "3DE0000000"), "a rule of width 0 whose length passes it", "REFUSED 27 6\n"),
     Case("rule-negative", alone(RMI, "FFFF") + alone(DIR, "0005"), "a rule that starts at I = -1", "REFUSED 27 6\n"),
+]
+
+# How many lines the sheet and the numbers have, at six to the inch and at eight.
+LINES = [
+    Case("lines-66", LINE * 66 + C1, "66 lines of 240 reach the lower edge",
+         t(0, 15840, "C1") + "END 144 15840 67 17\n", t(0, 11880, "C1") + "END 144 11880 67 17\n"),
+    Case("lines-67", LINE * 67 + C1, "67 of them pass it", "REFUSED 27 268\n", t(0, 12060, "C1") + "END 144 12060 68 17\n"),
+    Case("lines-88", LINE * 88 + C1, "88 lines of 180 reach it", "REFUSED 27 352\n", t(0, 15840, "C1") + "END 144 15840 89 17\n"),
+    Case("lines-89", LINE * 89 + C1, "89 of them pass it", "REFUSED 27 356\n"),
+    Case("lines-136", LINE * 136, "136 lines of 240 are within the positions", "END 0 32640 136 0\n", "END 0 24480 136 0\n"),
+    Case("lines-137", LINE * 137, "the next is past them", "REFUSED 28 544\n", "END 0 24660 137 0\n"),
+    Case("lines-182", LINE * 182, "182 lines of 180 are within them", "REFUSED 28 544\n", "END 0 32760 182 0\n"),
+    Case("lines-183", LINE * 183, "and the next is past them", "REFUSED 28 544\n", "REFUSED 28 728\n"),
+    Case("lines-of-its-own", alone(SBI, "0064") + LINE * 3 + C1, "a part that sets its own increment", t(0, 300, "C1") + "END 144 300 5 17\n"),
+    Case("lines-set-back", alone(SBI, "0032") + LINE + alone(SBI, "FFFF") + LINE + C1, "and one that goes back to the descriptor's",
+         t(0, 290, "C1") + "END 144 290 5 17\n", t(0, 230, "C1") + "END 144 230 5 17\n"),
 ]
 
 # Codes 20 to 29, their order within a sequence, and the first element at fault. In a part a `>` stands before the byte that the refusal points at:
@@ -353,7 +380,8 @@ ROOMS = [
     Case("area-past-text", STILL + alone(RPS, "0FF1C1"), "one of 4,097", "REFUSED 29 7\n"),
     Case("area-past-rps", STILL + alone(RPS, "7FFFC1"), "the greatest count", "REFUSED 29 7\n"),
     Case("area-past-chain", chain(*[(DIR, "0001")] * 257), "257 rules in a chain: 2 bytes and 4 for each of 256 before the last", "REFUSED 29 1026\n"),
-    Case("area-full-silent", RULE * 256 + alone(BLN) + alone(TRN), "a full area takes elements without records"),
+    Case("area-full-silent", RULE * 256 + alone(BLN) + alone(TRN), "a full area takes elements without records",
+         ONE_RULE * 256 + "END 0 240 258 4096\n", ONE_RULE * 256 + "END 0 180 258 4096\n"),
     Case("area-full-no-ink", RULE * 256 + alone(DIR, "0000") + alone(DBR, "000A000000"), "and rules with no ink", ONE_RULE * 256 + "END 0 0 258 4096\n"),
     Case("area-past-no-ink", RULE * 256 + alone(DIR, "0000") + RULE, "behind one of which a rule with ink has no room", "REFUSED 29 1542\n"),
     Case("long-8192", alone(NOP) * 2047 + text("C1C2C3C4"), "the longest part", t(0, 0, "C1C2C3C4") + "END 576 0 2048 20\n"),
@@ -377,7 +405,7 @@ def refused(name: str, marked: str, code: int, why: str) -> Case:
 def cases() -> list:
     """All of them; a name stands once."""
     refusals = [refused(*row) for row in REFUSALS + IN_CHAIN + BEHIND]
-    every = EVERY_SEQUENCE + OPTIONAL_FORMS + READINGS + POSITIONS + refusals + ROOMS
+    every = EVERY_SEQUENCE + OPTIONAL_FORMS + READINGS + POSITIONS + LINES + refusals + ROOMS
     names = [case.name for case in every]
     assert len(set(names)) == len(names), "a name stands twice"
     return every
