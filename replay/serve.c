@@ -9,7 +9,7 @@
 /* Where each lent slice stands in the file; src/proved.rs has the same numbers. */
 enum { TABLE = 0, RECORDS = 4096, WIDTHS = 73728, PART = 77824, SPAN = 1 << 28 };
 
-enum { FRESH, OPEN, SUBMIT, CLOSE, COUNT, INTERPRET, CHECK };
+enum { FRESH, OPEN, SUBMIT, CLOSE, COUNT, INTERPRET, CHECK, CHECK_AT };
 
 typedef struct question {
     uint32_t what, slot, key, number;
@@ -43,6 +43,9 @@ static halviruso_interpreted answer(unsigned char *at, const question *q) {
         break;
     case CHECK:
         reply.answer.code = halviruso_check(at + PART, q->part);
+        break;
+    case CHECK_AT:
+        reply.answer.code = halviruso_check_at(at + PART, q->part, q->descriptor.increment);
         break;
     }
     return reply;

@@ -3,7 +3,11 @@
 use std::sync::Arc;
 
 use peer::model::AREA;
-use peer::{interpret, sheet, Answer, Descriptor, State};
+use peer::sheet::{self, SIX_LINES};
+use peer::{interpret, Answer, Descriptor, State};
+
+/// The paper's sheet.
+pub const SHEET: Descriptor = sheet::descriptor(SIX_LINES);
 
 /// One call.
 #[derive(Clone, Debug)]
@@ -17,7 +21,7 @@ pub struct Case {
 impl Case {
     /// A part at the start of the paper's sheet.
     pub fn on_sheet(part: Vec<u8>) -> Self {
-        Self::with(part, sheet::WIDTHS_144.to_vec(), sheet::DESCRIPTOR)
+        Self::with(part, sheet::WIDTHS_144.to_vec(), SHEET)
     }
 
     /// A part at the start of a sheet.

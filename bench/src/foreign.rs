@@ -102,6 +102,7 @@ mod linked {
             s: State,
         ) -> Interpreted;
         fn halviruso_check(part: *const u8, part_bytes: usize) -> u32;
+        fn halviruso_check_at(part: *const u8, part_bytes: usize, increment: u32) -> u32;
     }
 
     /// The proved library. It keeps no memory of its own.
@@ -178,6 +179,10 @@ mod linked {
 
         fn check(&mut self, part: &[u8]) -> u32 {
             unsafe { halviruso_check(part.as_ptr(), part.len()) }
+        }
+
+        fn check_at(&mut self, part: &[u8], increment: u32) -> u32 {
+            unsafe { halviruso_check_at(part.as_ptr(), part.len(), increment) }
         }
     }
 }

@@ -5,8 +5,9 @@ use std::hint::black_box;
 use peer::hub::Lent;
 use peer::model::{AREA, RECORDS, SLOTS, WIDTHS};
 use peer::replay::Backend;
-use peer::{sheet, Entry};
+use peer::Entry;
 
+use crate::case::SHEET;
 use crate::clock::Run;
 
 /// What one run of a history asks.
@@ -46,7 +47,7 @@ pub fn asking<'a, B: Backend + 'a>(mut hub: B, history: &'a History) -> Run<'a> 
         for _ in 0..count {
             jobs += 1;
             let (slot, key) = (jobs % SLOTS as u32, jobs);
-            black_box(hub.open(&mut table, slot, key, &sheet::DESCRIPTOR));
+            black_box(hub.open(&mut table, slot, key, &SHEET));
             for (part, number) in history.parts.iter().zip(1..) {
                 for _ in 0..history.sent {
                     let lent = Lent { table: &mut table, records: &mut records, widths: &widths };
@@ -61,7 +62,7 @@ pub fn asking<'a, B: Backend + 'a>(mut hub: B, history: &'a History) -> Run<'a> 
 /// What a history leaves: all answers, the table, the records.
 pub fn told<B: Backend>(mut hub: B, history: &History) -> (Vec<u32>, Vec<Entry>, Vec<u8>) {
     let (mut table, mut records) = (hub.fresh().to_vec(), vec![0; RECORDS]);
-    let mut codes = vec![hub.open(&mut table, 1, 1, &sheet::DESCRIPTOR).code];
+    let mut codes = vec![hub.open(&mut table, 1, 1, &SHEET).code];
     for (part, number) in history.parts.iter().zip(1..) {
         for _ in 0..history.sent {
             let lent = Lent { table: &mut table, records: &mut records, widths: &[144; WIDTHS] };

@@ -8,7 +8,7 @@ use peer::generate::Rng;
 use peer::model::WIDTHS;
 use peer::{sheet, Descriptor};
 
-use crate::case::Case;
+use crate::case::{Case, SHEET};
 use crate::write::{self, Part};
 
 /// The workload of all real parts as they were meant.
@@ -116,7 +116,7 @@ fn real(root: &Path, own_widths: bool) -> io::Result<Vec<Case>> {
             Some(widths) if own_widths => widths,
             _ => sheet::WIDTHS_144.to_vec(),
         };
-        let mut case = Case::with(fs::read(&path)?, widths, sheet::DESCRIPTOR);
+        let mut case = Case::with(fs::read(&path)?, widths, SHEET);
         if let (true, Some(before)) = (name.contains("x02"), cases.last()) {
             case.state = before.expected().1;
         }
@@ -173,12 +173,10 @@ fn text() -> Vec<Workload> {
 
 /// Sequences, and the smallest elements.
 fn sequences() -> Vec<Workload> {
-    let low = Descriptor { increment: 60, ..sheet::DESCRIPTOR };
+    let low = Descriptor { increment: 60, ..SHEET };
     let narrow = vec![3; WIDTHS];
     let one_byte = Case::with(write::one_byte(240).bytes(), sheet::WIDTHS_144.to_vec(), low);
-    let rps = |length: usize| {
-        vec![Case::with(write::rps(length).bytes(), narrow.clone(), sheet::DESCRIPTOR)]
-    };
+    let rps = |length: usize| vec![Case::with(write::rps(length).bytes(), narrow.clone(), SHEET)];
     vec![
         Workload::new("one-byte runs between BLNs", vec![one_byte]),
         Workload::new(
@@ -210,14 +208,14 @@ pub const SIZES: [usize; 4] = [1_024, 2_048, 4_096, 8_192];
 
 /// Parts of the four sizes, for each kind: a row of four workloads.
 pub fn growing() -> Vec<(&'static str, Vec<Workload>)> {
-    let hiding = Descriptor { hidden: 1, ..sheet::DESCRIPTOR };
+    let hiding = Descriptor { hidden: 1, ..SHEET };
     let hidden = |size: usize| {
         let part = write::hidden_text(&mut Rng::new(1), size).bytes();
         Case::with(part, vec![0; WIDTHS], hiding)
     };
     let shown = |size: usize| {
         let part = write::one_run(&mut Rng::new(1), size / 2 - 16).bytes();
-        Case::with(part, vec![0; WIDTHS], sheet::DESCRIPTOR)
+        Case::with(part, vec![0; WIDTHS], SHEET)
     };
     let row = |name, make: &dyn Fn(usize) -> Case| {
         let cells = SIZES.iter().map(|&size| Workload::new(name, vec![make(size)])).collect();

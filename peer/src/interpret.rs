@@ -50,7 +50,7 @@ pub(crate) fn interpret_in_range(
 
 /// Places every element into `records`; gives their count and the state reached.
 #[inline(always)]
-pub(crate) fn place_elements(
+fn place_elements(
     part: &[u8],
     widths: &[u16; WIDTHS],
     records: &mut [u8; AREA],

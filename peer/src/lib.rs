@@ -27,7 +27,7 @@ mod text;
 mod values;
 
 pub use answer::{Answer, Code};
-pub use check::check;
+pub use check::{check, check_at};
 pub use interpret::interpret;
 pub use listing::listing;
 pub use model::{Descriptor, Entry, State};

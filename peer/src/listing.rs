@@ -2,20 +2,18 @@
 
 use std::fmt;
 
-use crate::interpret::interpret;
-use crate::model::{position, State, AREA, LONGEST_PART};
+use crate::model::{position, AREA, LONGEST_PART};
 use crate::record::{records, Record};
-use crate::sheet;
+use crate::sheet::alone;
 
 /// Bytes the listing program reads; reading the last of them means the part is too long.
 pub const READ: usize = LONGEST_PART + 1;
 
-/// The listing of a part that stands on a fresh sheet; bytes after [`READ`] aren't read.
-pub fn listing(input: &[u8]) -> String {
+/// The listing of a part alone on a fresh sheet of this increment; bytes after [`READ`] aren't read.
+pub fn listing(input: &[u8], increment: u32) -> String {
     let part = &input[..input.len().min(READ)];
     let mut area = [0; AREA];
-    let mut state = State::start(&sheet::DESCRIPTOR);
-    let answer = interpret(part, &sheet::WIDTHS_144, &mut area, &sheet::DESCRIPTOR, &mut state);
+    let (answer, state) = alone(part, increment, &mut area);
     let mut lines = format!("PART {}\n", part.len());
     if answer.is_done() {
         for record in records(&area[..state.used as usize]) {

@@ -7,7 +7,7 @@ use std::fmt;
 use std::io::{BufRead, Write};
 
 use crate::answer::Answer;
-use crate::check::check;
+use crate::check::{check, check_at};
 use crate::hub::{self, Lent};
 use crate::interpret::interpret;
 use crate::listing::Hex;
@@ -41,6 +41,8 @@ pub trait Backend {
     ) -> Answer;
     /// The code of one part alone.
     fn check(&mut self, part: &[u8]) -> u32;
+    /// The same at an increment.
+    fn check_at(&mut self, part: &[u8], increment: u32) -> u32;
 }
 
 /// This crate's own hub.
@@ -81,6 +83,10 @@ impl Backend for Peer {
 
     fn check(&mut self, part: &[u8]) -> u32 {
         check(part)
+    }
+
+    fn check_at(&mut self, part: &[u8], increment: u32) -> u32 {
+        check_at(part, increment)
     }
 }
 
@@ -139,6 +145,8 @@ pub enum Said {
     Answer(Answer),
     /// The count of open jobs.
     Count(u32),
+    /// The code of a part alone.
+    Check(u32),
     /// Lines that show memory.
     Shown(String),
 }
@@ -149,6 +157,7 @@ impl fmt::Display for Said {
             Self::Nothing => Ok(()),
             Self::Answer(Answer { code, first, second }) => writeln!(f, "{code} {first} {second}"),
             Self::Count(count) => writeln!(f, "COUNT {count}"),
+            Self::Check(code) => writeln!(f, "CHECK {code}"),
             Self::Shown(lines) => f.write_str(lines),
         }
     }
@@ -255,6 +264,10 @@ impl<B: Backend> Replay<B> {
             Step::Close { slot, key } => Said::Answer(self.backend.close(table, slot, key)),
             Step::Count => Said::Count(self.backend.count(table)),
             Step::Direct { slot, ref part } if slot < SLOTS => self.direct(slot, part),
+            Step::Check { ref part } => Said::Check(self.backend.check(part)),
+            Step::CheckAt { increment, ref part } => {
+                Said::Check(self.backend.check_at(part, increment))
+            }
             Step::Show { slot } if slot < SLOTS => self.show(slot),
             Step::Bytes { slot, from, to } if slot < SLOTS => {
                 let bytes = self.memory.area(slot).get(from..to).unwrap_or(&[]);

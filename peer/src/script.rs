@@ -84,6 +84,18 @@ pub enum Step {
         /// The part.
         part: Vec<u8>,
     },
+    /// Checks a part alone.
+    Check {
+        /// The part.
+        part: Vec<u8>,
+    },
+    /// Checks a part alone at an increment.
+    CheckAt {
+        /// The increment.
+        increment: u32,
+        /// The part.
+        part: Vec<u8>,
+    },
     /// Makes an entry just this. A line can say marks of 0 and 1 and numbers up to
     /// 65,535 in the state; a value can hold any.
     Set {
@@ -134,6 +146,8 @@ impl fmt::Display for Step {
             Self::Close { slot, key } => write!(f, "close {slot} {key}"),
             Self::Count => f.write_str("count"),
             Self::Direct { slot, part } => write!(f, "direct {slot} {}", Hex(part)),
+            Self::Check { part } => write!(f, "check {}", Hex(part)),
+            Self::CheckAt { increment, part } => write!(f, "check-at {increment} {}", Hex(part)),
             Self::Set { slot, entry } => write!(f, "set {slot} {entry}"),
             Self::Show { slot } => write!(f, "show {slot}"),
             Self::Bytes { slot, from, to } => write!(f, "bytes {slot} {from} {to}"),
@@ -190,6 +204,9 @@ mod tests {
         for good in ["close 4294967295 0", "close 007 00", "bytes 15 4096 4096", "direct 15 -"] {
             assert!(!is_bad(good), "{good}");
         }
+        for good in ["check -", "check-at 0 -", "check-at 4294967295 -", "check-at 00180 -"] {
+            assert!(!is_bad(good), "{good}");
+        }
         for bad in ["widths 65536", "fill 256", "width 4 0 0", "width 0 256 0", "lend 21 0 0"] {
             assert!(is_bad(bad), "{bad}");
         }
@@ -197,6 +214,9 @@ mod tests {
             assert!(is_bad(bad), "{bad}");
         }
         for bad in ["close +1 0", "bytes 0 2 1", "bytes 0 0 4097", "bytes 16 0 0", "show 16"] {
+            assert!(is_bad(bad), "{bad}");
+        }
+        for bad in ["check-at 4294967296 -", "check-at -1 -", "check-at +180 -", "check-at - -"] {
             assert!(is_bad(bad), "{bad}");
         }
     }
@@ -212,8 +232,14 @@ mod tests {
         for bad in ["direct 0 2g", "direct 0 --", "direct 0 2B -", "direct 0 é", "widths ٣"] {
             assert!(is_bad(bad), "{bad:?}");
         }
+        for bad in ["check", "check 180 C1", "check-at 180", "check-at C1", "check_at 180 C1"] {
+            assert!(is_bad(bad), "{bad:?}");
+        }
         let part = vec![0x2B, 0xD3, 0x02, 0xD8];
-        assert_eq!(Step::parse("direct 1 2bD302d8"), Ok(Step::Direct { slot: 1, part }));
+        let direct = Step::Direct { slot: 1, part: part.clone() };
+        assert_eq!(Step::parse("direct 1 2bD302d8"), Ok(direct));
+        assert_eq!(Step::parse("check 2bD302d8"), Ok(Step::Check { part: part.clone() }));
+        assert_eq!(Step::parse("check-at 7 2bD302d8"), Ok(Step::CheckAt { increment: 7, part }));
     }
 
     #[test]

@@ -198,6 +198,7 @@ fn requests_change_only_what_they_name() {
                 (Step::Submit { slot, .. }, _) => Some(*slot as usize),
                 (Step::Direct { slot, .. }, _) => Some(*slot),
                 (Step::Count | Step::Show { .. } | Step::Bytes { .. }, _) => None,
+                (Step::Check { .. } | Step::CheckAt { .. }, _) => None,
                 _ => {
                     before = after.clone();
                     continue;
@@ -262,15 +263,15 @@ fn no_script_makes_it_panic_and_reasons_are_short_and_plain() {
 #[test]
 fn parts_come_in_every_size() {
     let mut rng = Rng::new(2);
+    let descriptor = sheet::descriptor(sheet::SIX_LINES);
     let mut accepted = 0;
     for size in 0..=8_193 {
-        let mut state = State::start(&sheet::DESCRIPTOR);
-        let ground = Ground { descriptor: sheet::DESCRIPTOR, state, widths: &sheet::WIDTHS_144 };
+        let mut state = State::start(&descriptor);
+        let ground = Ground { descriptor, state, widths: &sheet::WIDTHS_144 };
         let part = sized_part(&mut rng, &ground, size);
         assert_eq!(part.len(), size);
         let mut area = [0; AREA];
-        let answer =
-            interpret(&part, &sheet::WIDTHS_144, &mut area, &sheet::DESCRIPTOR, &mut state);
+        let answer = interpret(&part, &sheet::WIDTHS_144, &mut area, &descriptor, &mut state);
         accepted += u32::from(answer.code == 0);
         assert!(size <= 8_192 || answer.code == 19);
     }

@@ -4,14 +4,13 @@ mod common;
 
 use std::collections::BTreeMap;
 
-use common::{answer, hex, Desk};
+use common::{answer, hex, Desk, DESCRIPTOR};
 use peer::generate::{case, Case, Reach, Requests, Rng};
 use peer::model::{kept, AREA, WIDTHS};
 use peer::reader::{read, Element, DBR, DIR};
 use peer::record::{Record, HEADER};
 use peer::replay::{Memory, Said};
 use peer::script::Step;
-use peer::sheet::DESCRIPTOR;
 use peer::{interpret, Descriptor, Entry, State};
 
 /// Rules with no ink from their LENGTH on, and the descriptor's rule width.

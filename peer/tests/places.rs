@@ -2,9 +2,9 @@
 
 mod common;
 
-use common::{answer, hex, Desk};
-use peer::sheet::DESCRIPTOR;
-use peer::{check, Answer};
+use common::{answer, hex, Desk, DESCRIPTOR};
+use peer::sheet::SIX_LINES;
+use peer::{check_at, Answer};
 
 /// Sequences at fault from their LENGTH on, the code, and the byte at fault counted from LENGTH.
 const INSIDE: [(&str, u32, u32); 56] = [
@@ -136,7 +136,7 @@ const FULL: [(&str, &str); 5] = [
 /// One part on a fresh sheet, and the code of the check alone.
 fn refused(digits: &str, expected: Answer) {
     assert_eq!(Desk::job(&DESCRIPTOR).part(digits), expected, "{digits}");
-    assert_eq!(check(&hex(digits)), expected.code, "{digits}");
+    assert_eq!(check_at(&hex(digits), SIX_LINES), expected.code, "{digits}");
 }
 
 #[test]

@@ -3,8 +3,8 @@
 mod common;
 
 use common::hex;
-use peer::listing;
 use peer::replay::{Peer, Replay, Stopped};
+use peer::sheet::{EIGHT_LINES, SIX_LINES};
 
 fn replayed(script: &[u8]) -> String {
     let mut out = Vec::new();
@@ -14,6 +14,13 @@ fn replayed(script: &[u8]) -> String {
 }
 
 const SHEET: &str = "12240 15840 0 0 0 240 0 0 0 65287 14 0";
+
+/// The listing of a part to which the increment is nothing: the same at both.
+fn listing(part: &[u8]) -> String {
+    let [eight, six] = [EIGHT_LINES, SIX_LINES].map(|increment| peer::listing(part, increment));
+    assert_eq!(eight, six);
+    six
+}
 
 #[test]
 fn the_listing_of_the_paper() {
@@ -40,6 +47,38 @@ fn listings_of_rules_and_refusals() {
     assert_eq!(listing(&hex("2BD304C72F41 03DAC1")), "PART 9\nREFUSED 27 6\n");
     assert_eq!(listing(&[0x2B; 8_193]), "PART 8193\nREFUSED 19 0\n");
     assert_eq!(listing(&[0x2B; 9_000]), "PART 8193\nREFUSED 19 0\n");
+}
+
+#[test]
+fn lines_are_listed_at_their_increment() {
+    let part = hex("C1 2BD302D8 C2 2BD302D9 04E40005");
+    for (increment, first, second) in [(180, 180, 360), (240, 240, 480), (0, 0, 0)] {
+        let lines = format!(
+            "PART 14\nT 0 0 0 65287 0 65535 C1\nT 0 {first} 0 65287 0 65535 C2\n\
+             R 0 {second} 0 65287 5 14\nEND 0 {second} 5 50\n"
+        );
+        assert_eq!(peer::listing(&part, increment), lines, "{increment}");
+    }
+}
+
+#[test]
+fn the_last_line_of_a_sheet_is_listed_and_the_one_after_it_refused() {
+    for (increment, last) in [(180, 88), (240, 66)] {
+        let lines = |count: usize| [hex("2BD302D8").repeat(count), hex("C1")].concat();
+        let (elements, read) = (last + 1, 4 * last + 1);
+        let listed =
+            format!("PART {read}\nT 0 15840 0 65287 0 65535 C1\nEND 144 15840 {elements} 17\n");
+        assert_eq!(peer::listing(&lines(last), increment), listed);
+        let refused = format!("PART {}\nREFUSED 27 {}\n", read + 4, read + 3);
+        assert_eq!(peer::listing(&lines(last + 1), increment), refused);
+    }
+}
+
+#[test]
+fn a_listing_at_an_increment_out_of_range() {
+    assert_eq!(peer::listing(&hex("2BD302D8"), 32_767), "PART 4\nEND 0 32767 1 0\n");
+    assert_eq!(peer::listing(&hex("2BD302D8"), 32_768), "PART 4\nREFUSED 15 0\n");
+    assert_eq!(peer::listing(&[0; 9_000], 32_768), "PART 8193\nREFUSED 15 0\n");
 }
 
 #[test]
@@ -126,4 +165,18 @@ fn records_are_shown_up_to_used_or_to_where_they_stop_being_whole() {
         shown,
         [format!("{text}END\n"), format!("{text}END\n"), format!("{text}{rule}END\n")]
     );
+}
+
+#[test]
+fn checks_print_their_code_and_look_at_nothing_that_is_lent() {
+    let at_foot = "2BD304D33D2C02D8C1";
+    let script = format!(
+        "check {at_foot}\ncheck-at 180 {at_foot}\ncheck-at 240 {at_foot}\n\
+         check-at 4294967295 {at_foot}\ncheck -\ncheck-at 0 2b\nwidths 65535\nfill 171\n\
+         lend 0 0 0\nset 0 1 1 {SHEET} 0 0 0 240 0 0 0 65287 65535 5 1 1 4096\n\
+         check c1\ncheck-at 240 C1\nbytes 0 0 2\nlend 16 65536 1024\ncount\n"
+    );
+    let printed = "CHECK 0\nCHECK 0\nCHECK 27\nCHECK 15\nCHECK 0\nCHECK 20\nCHECK 0\n\
+                   CHECK 0\nABAB\nCOUNT 1\n";
+    assert_eq!(replayed(script.as_bytes()), printed);
 }

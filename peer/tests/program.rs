@@ -1,20 +1,29 @@
-//! The program that runs scripts: its status, and what it says on standard error.
+//! The programs that run scripts and list parts: their status, and what they say on standard error.
 
 use std::fs::File;
 use std::io::Write;
 use std::process::{Command, Output, Stdio};
 
 const PROGRAM: &str = env!("CARGO_BIN_EXE_replay_peer");
+const LISTING: &str = env!("CARGO_BIN_EXE_listing_peer");
 
 fn run(script: &[u8]) -> Output {
-    let mut child = Command::new(PROGRAM)
+    fed(&mut Command::new(PROGRAM), script)
+}
+
+fn list(words: &[&str], part: &[u8]) -> Output {
+    fed(Command::new(LISTING).args(words), part)
+}
+
+fn fed(program: &mut Command, input: &[u8]) -> Output {
+    let mut child = program
         .stdin(Stdio::piped())
         .stdout(Stdio::piped())
         .stderr(Stdio::piped())
         .spawn()
         .expect("the program");
-    // A script may end before it is read to its end, so this may fail.
-    let _ = child.stdin.take().expect("a pipe").write_all(script);
+    // A program may end before it has read all, so this may fail.
+    let _ = child.stdin.take().expect("a pipe").write_all(input);
     child.wait_with_output().expect("its end")
 }
 
@@ -76,4 +85,61 @@ fn a_reason_that_can_not_be_written_leaves_the_status() {
         .output()
         .expect("sh");
     assert_eq!(said(&output), (Some(1), "BAD LINE 1\n", ""));
+}
+
+/// A new line, and a character.
+const LINE: &[u8] = b"\x2B\xD3\x02\xD8\xC1";
+
+#[test]
+fn a_part_is_listed_at_180_or_at_the_increment_given() {
+    let listed = |b: u32| format!("PART 5\nT 0 {b} 0 65287 0 65535 C1\nEND 144 {b} 2 17\n");
+    for (words, b) in [
+        (&[][..], 180),
+        (&["180"], 180),
+        (&["240"], 240),
+        (&["0"], 0),
+        (&["00240"], 240),
+        (&["15840"], 15_840),
+    ] {
+        assert_eq!(said(&list(words, LINE)), (Some(0), &listed(b)[..], ""), "{words:?}");
+    }
+}
+
+#[test]
+fn a_refusal_is_a_listing_too() {
+    let refused = "PART 5\nREFUSED 27 4\n";
+    for increment in ["15841", "32767"] {
+        assert_eq!(said(&list(&[increment], LINE)), (Some(0), refused, ""), "{increment}");
+    }
+    let long = (Some(0), "PART 8193\nREFUSED 19 0\n", "");
+    assert_eq!(said(&list(&[], &[0xC1; 8_193])), long);
+    assert_eq!(said(&list(&["240"], &[0xC1; 100_000])), long);
+}
+
+#[test]
+fn words_that_are_no_increment() {
+    for word in ["32768", "65716", "4294967296", "99999999999999999999", "", "x", "-1", "+240"]
+        .into_iter()
+        .chain(["240 ", "0xF0", "2.4e2", "--help"])
+    {
+        let why = format!("listing_peer: the increment is \"{word}\"; it may be 0 to 32767\n");
+        assert_eq!(said(&list(&[word], LINE)), (Some(2), "", &why[..]), "{word:?}");
+    }
+    let plain = "listing_peer: the increment is \"\\xc3\\xa9\\n\"; it may be 0 to 32767\n";
+    assert_eq!(said(&list(&["\u{e9}\n"], LINE)), (Some(2), "", plain));
+    let many = "listing_peer: 2 words; there may be one, the increment\n";
+    assert_eq!(said(&list(&["240", "240"], LINE)), (Some(2), "", many));
+}
+
+#[test]
+fn a_listing_whose_input_or_output_fails() {
+    for redirected in ["<.", "</dev/null >/dev/full"] {
+        let output = Command::new("sh")
+            .args(["-c", &format!("exec {LISTING} {redirected}")])
+            .output()
+            .expect("sh");
+        let (status, out, error) = said(&output);
+        assert_eq!((status, out), (Some(1), ""), "{redirected}");
+        assert!(error.starts_with("listing_peer: ") && error.lines().count() == 1, "{error}");
+    }
 }

@@ -5,9 +5,8 @@ mod common;
 use std::fs;
 use std::path::PathBuf;
 
-use common::Desk;
+use common::{Desk, DESCRIPTOR};
 use peer::record::Record;
-use peer::sheet::DESCRIPTOR;
 
 fn file(name: &str) -> PathBuf {
     PathBuf::from(env!("CARGO_MANIFEST_DIR")).join("../tests/real").join(name)

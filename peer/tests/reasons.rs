@@ -7,7 +7,8 @@ const D_NAMES: &str =
     "SIZE-I SIZE-B INITIAL-I INITIAL-B MARGIN INCREMENT ADJUSTMENT DIRECTION FONT COLOUR \
                        RULE HIDDEN";
 const FIRST: &str =
-    "widths, width, fill, fresh, lend, open, submit, close, count, direct, set, show, bytes";
+    "widths, width, fill, fresh, lend, open, submit, close, count, direct, check, check-at, set, \
+     show, bytes";
 
 /// What stopped a script that has this as its second line.
 fn reason(line: &[u8]) -> String {
@@ -28,8 +29,13 @@ fn check(rows: &[(&str, &str)]) {
 fn first_words() {
     check(&[
         ("bad", &format!("no line begins with \"bad\"; the first words are {FIRST}")),
-        ("check C1", &format!("no line begins with \"check\"; the first words are {FIRST}")),
+        (
+            "check_at 180 C1",
+            &format!("no line begins with \"check_at\"; the first words are {FIRST}"),
+        ),
         ("Count", "\"Count\" is written count"),
+        ("CHECK C1", "\"CHECK\" is written check"),
+        ("Check-At 180 C1", "\"Check-At\" is written check-at"),
         ("SUBMIT 0 1 1 C1", "\"SUBMIT\" is written submit"),
         ("fresh#", &format!("no line begins with \"fresh#\"; the first words are {FIRST}")),
     ]);
@@ -62,6 +68,11 @@ fn too_few_and_too_many_words() {
         ("submit 0 1 1", "too few words, 4 and not 5: submit S K N HEX"),
         ("submit 0 1 1 2B D3", "too many words, 6 and not 5: submit S K N HEX"),
         ("bytes x", "too few words, 2 and not 4: bytes S FROM TO"),
+        ("check", "too few words, 1 and not 2: check HEX"),
+        ("check 180 C1", "too many words, 3 and not 2: check HEX"),
+        ("check-at C1", "too few words, 2 and not 3: check-at N HEX"),
+        ("check-at 180", "too few words, 2 and not 3: check-at N HEX"),
+        ("check-at 180 2B D3", "too many words, 4 and not 3: check-at N HEX"),
         ("open 0 1", &format!("too few words, 3 and not 15: open S K {D_NAMES}")),
         ("set 0", &format!("too few words, 2 and not 29: set S KEY OPEN {D_NAMES} {entry}")),
     ]);
@@ -84,6 +95,9 @@ fn numbers() {
             &format!("close 0 {nines}9"),
             &format!("word 3, K, is {nines}.. (25 bytes); it may be 0 to 4294967295"),
         ),
+        ("check-at C1 180", "word 2, N, is no number: \"C1\""),
+        ("check-at -1 C1", "word 2, N, has a sign: -1; only I and B may have one, a minus"),
+        ("check-at 4294967296 -", "word 2, N, is 4294967296; it may be 0 to 4294967295"),
         ("widths 65536", "word 2, N, is 65536; it may be 0 to 65535"),
         ("width 4 0 0", "word 2, F, is 4; it may be 0 to 3"),
         ("width 0 256 0", "word 3, C, is 256; it may be 0 to 255"),
@@ -133,6 +147,8 @@ fn hex() {
     check(&[
         ("direct 0 2", "word 3, HEX, has an odd number of hex digits: 1"),
         ("submit 0 1 1 2BD", "word 5, HEX, has an odd number of hex digits: 3"),
+        ("check 2BD", "word 2, HEX, has an odd number of hex digits: 3"),
+        ("check-at 180 C1-", "word 3, HEX, has \"-\" as its digit 3, which is no hex digit"),
         ("direct 0 2BG", "word 3, HEX, has \"G\" as its digit 3, which is no hex digit"),
         ("direct 0 0x2B", "word 3, HEX, has \"x\" as its digit 2, which is no hex digit"),
         ("direct 0 --", "word 3, HEX, has \"-\" as its digit 1, which is no hex digit"),

@@ -2,10 +2,10 @@
 
 mod common;
 
-use common::{answer, hex, Desk};
+use common::{answer, hex, Desk, DESCRIPTOR};
 use peer::hub::{self, Lent};
 use peer::model::{kept, AREA};
-use peer::sheet::{DESCRIPTOR, WIDTHS_144};
+use peer::sheet::WIDTHS_144;
 use peer::{interpret, Answer, Descriptor, Entry, State};
 
 const BAD: Descriptor = Descriptor { font: 4, ..DESCRIPTOR };

@@ -2,17 +2,17 @@
 
 mod common;
 
-use common::{answer, hex, Desk};
+use common::{answer, hex, Desk, DESCRIPTOR};
 use peer::record::Record;
-use peer::sheet::DESCRIPTOR;
-use peer::{check, Answer, Descriptor};
+use peer::sheet::SIX_LINES;
+use peer::{check_at, Answer, Descriptor};
 
 /// One part, one answer, and the code of the check alone.
 fn sheet(digits: &str, expected: Answer) -> Desk {
     let mut desk = Desk::job(&DESCRIPTOR);
     let (table, records) = (desk.table.clone(), desk.records.clone());
     assert_eq!(desk.part(digits), expected, "{digits}");
-    assert_eq!(check(&hex(digits)), expected.code, "{digits}");
+    assert_eq!(check_at(&hex(digits), SIX_LINES), expected.code, "{digits}");
     if expected.code != 0 {
         assert!(desk.table == table && desk.records == records, "{digits}");
     }
@@ -207,6 +207,6 @@ fn records_are_signed_where_the_paper_says() {
 #[test]
 fn a_fault_leaves_no_trace_of_the_elements_before() {
     sheet("C1C2C3 2BD304E40001 2BD303F405", answer(26, 9, 0));
-    assert_eq!(check(&[0xC1; 8_193]), 19);
-    assert_eq!(check(&[0xC1; 8_192]), 27);
+    assert_eq!(check_at(&[0xC1; 8_193], SIX_LINES), 19);
+    assert_eq!(check_at(&[0xC1; 8_192], SIX_LINES), 27);
 }

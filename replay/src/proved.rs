@@ -38,6 +38,7 @@ const CLOSE: u32 = 3;
 const COUNT: u32 = 4;
 const INTERPRET: u32 = 5;
 const CHECK: u32 = 6;
+const CHECK_AT: u32 = 7;
 
 /// What is asked, with the lengths lent.
 #[derive(Default)]
@@ -174,6 +175,12 @@ impl Served {
         *s = state_of(&reply[3..]);
         Ok(answer_of(&reply))
     }
+
+    fn check(&mut self, part: &[u8], question: Question) -> io::Result<u32> {
+        let part = self.lend_part(part)?;
+        let [code, ..] = self.ask(&Question { part, ..question })?;
+        Ok(code)
+    }
 }
 
 impl Drop for Served {
@@ -254,9 +261,14 @@ impl Backend for Proved {
     }
 
     fn check(&mut self, part: &[u8]) -> u32 {
-        let mut served = self.0.borrow_mut();
-        let part = here(served.lend_part(part));
-        here(served.ask(&Question { what: CHECK, part, ..Question::default() }))[0]
+        let question = Question { what: CHECK, ..Question::default() };
+        here(self.0.borrow_mut().check(part, question))
+    }
+
+    fn check_at(&mut self, part: &[u8], increment: u32) -> u32 {
+        let descriptor = Descriptor { increment, ..Descriptor::default() };
+        let question = Question { what: CHECK_AT, descriptor, ..Question::default() };
+        here(self.0.borrow_mut().check(part, question))
     }
 }
 

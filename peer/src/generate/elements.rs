@@ -18,6 +18,9 @@ pub(super) struct Hand {
 }
 
 impl Hand {
+    /// Every sequence chains the next one.
+    const CHAINING: Self = Self { chaining: 8, text: 0, rules: 0 };
+
     pub(super) fn any(rng: &mut Rng) -> Self {
         Self {
             chaining: rng.pick(&[0, 1, 4, 7, 8]),
@@ -86,16 +89,38 @@ pub(super) fn snug(rng: &mut Rng, ground: &Ground, hand: Hand) -> Vec<u8> {
         _ => i64::from(ground.descriptor.size_i) + ground.adjustment(),
     };
     let start = goal + over - ground.after(&text);
-    let by = start - i64::from(position(ground.state.i).unwrap_or(0));
-    let (function, number) = if (0..=0x7FFF).contains(&start) && rng.chance(1, 2) {
-        (reader::AMI, start)
-    } else {
-        (reader::RMI, by.clamp(-32_768, 32_767))
-    };
-    let (chained, chaining) = (ground.state.chain != 0, Hand { chaining: 8, ..hand });
-    let mut bytes = sequence(rng, chained, chaining, function, &two(number as u16));
+    let mut bytes = moved(rng, ground, (reader::AMI, reader::RMI), start);
     bytes.extend(sequence(rng, true, hand, reader::TRN, &text));
     bytes
+}
+
+/// A move and BLN so that the new line is at the page's foot, or B at its range's end, or one
+/// beyond, and a character there. The increment is often set back to its default before.
+pub(super) fn foot(rng: &mut Rng, ground: &Ground, hand: Hand) -> Vec<u8> {
+    let is_default = rng.chance(1, 2);
+    let of = if is_default { ground.descriptor.increment } else { ground.state.increment };
+    let over = i64::from(rng.between(0, 2)) - 1;
+    let ends = [i64::from(ground.descriptor.size_b), i64::from(GREATEST_POSITION)];
+    let start = rng.pick(&ends) + over - i64::from(of);
+    let mut bytes = moved(rng, ground, (reader::AMB, reader::RMB), start);
+    if is_default {
+        bytes.extend(sequence(rng, true, Hand::CHAINING, reader::SBI, &[0xFF, 0xFF]));
+    }
+    bytes.extend(sequence(rng, true, Hand::CHAINING, reader::BLN, &[]));
+    bytes.extend(sequence(rng, true, hand, reader::TRN, &[0xC1]));
+    bytes
+}
+
+/// The absolute or the relative one of two moves to a place, chaining the next sequence.
+fn moved(rng: &mut Rng, ground: &Ground, (to, by): (u8, u8), place: i64) -> Vec<u8> {
+    let from = if to == reader::AMI { ground.state.i } else { ground.state.b };
+    let (function, number) = if (0..=0x7FFF).contains(&place) && rng.chance(1, 2) {
+        (to, place)
+    } else {
+        let distance = place - i64::from(position(from).unwrap_or(0));
+        (by, distance.clamp(-32_768, 32_767))
+    };
+    sequence(rng, ground.state.chain != 0, Hand::CHAINING, function, &two(number as u16))
 }
 
 fn free_run(rng: &mut Rng, longest: usize) -> Vec<u8> {

@@ -71,7 +71,8 @@ fn suppression(rng: &mut Rng) -> u32 {
 /// A descriptor in range.
 pub fn descriptor(rng: &mut Rng) -> Descriptor {
     if rng.chance(1, 4) {
-        return Descriptor { hidden: suppression(rng), ..sheet::DESCRIPTOR };
+        let increment = rng.pick(&[sheet::EIGHT_LINES, sheet::SIX_LINES]);
+        return Descriptor { hidden: suppression(rng), ..sheet::descriptor(increment) };
     }
     Descriptor {
         size_i: size(rng),

@@ -147,11 +147,17 @@ impl<'a> Draft<'a> {
         self.part.extend(elements::snug(rng, &self.ground, self.hand));
     }
 
+    /// Grows, then adds a line at the foot of the page or at the end of B's range.
+    fn foot(&mut self, rng: &mut Rng, size: usize) {
+        self.grow(rng, size.min(LONGEST_PART - 20));
+        self.part.extend(elements::foot(rng, &self.ground, self.hand));
+    }
+
     /// Fills the area with rules at the page's corner, and adds rules that need no room.
     fn brim(&mut self, rng: &mut Rng) {
         let rules = AREA.saturating_sub(self.ground.state.used as usize) / HEADER;
         let corner = [AMI, AMB].map(|function| (function, &[0, 0][..]));
-        let no_ink = NO_INK.map(|parameters| (rng.pick(&[DIR, DBR]), parameters));
+        let no_ink = NO_INK.into_iter().flat_map(|zero| [(DIR, zero), (DBR, zero)]);
         let filled = corner.into_iter().chain(iter::repeat_n((DIR, LEAST_INK), rules));
         for (function, parameters) in filled.chain(no_ink) {
             let bytes = self.sequence(rng, function, parameters);
@@ -216,7 +222,7 @@ fn length(rng: &mut Rng) -> usize {
 pub fn part(rng: &mut Rng, ground: &Ground<'_>) -> Vec<u8> {
     let size = length(rng);
     let mut draft = Draft::new(rng, ground);
-    match rng.below(35) {
+    match rng.below(37) {
         0 => return any_bytes(rng, size),
         1 => {
             let over = rng.pick(&[1, 1, 1, 2, 3, 7, 8, 255, LONGEST_PART, 65_536]);
@@ -247,6 +253,7 @@ pub fn part(rng: &mut Rng, ground: &Ground<'_>) -> Vec<u8> {
         20 | 21 => draft.edge(rng, size),
         22 => draft.overfill(rng, size),
         23 | 24 => draft.beyond(rng, size),
+        25 | 26 => draft.foot(rng, size),
         _ => draft.grow(rng, size),
     }
     draft.part
@@ -262,7 +269,7 @@ pub fn sized_part(rng: &mut Rng, ground: &Ground<'_>, size: usize) -> Vec<u8> {
 /// A part with an element at fault, now and then its first one, and often more after it.
 fn fault(rng: &mut Rng, draft: &mut Draft<'_>, size: usize, flaw: Flaw) {
     if rng.chance(3, 4) {
-        // A full area takes up to 262 sequences of 9 bytes.
+        // A full area takes up to 266 sequences of 9 bytes.
         draft.grow(rng, size.min(LONGEST_PART - 2_800));
     }
     draft.fail(rng, flaw);

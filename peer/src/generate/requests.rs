@@ -1,5 +1,6 @@
 //! Sequences of requests, steered by running them on this crate's hub.
 
+use super::checks;
 use super::ground::Ground;
 use super::numbers::{self, Reach};
 use super::parts;
@@ -7,6 +8,7 @@ use super::rng::Rng;
 use crate::model::{Descriptor, Entry, AREA, RECORDS, SLOTS, WIDTHS};
 use crate::replay::{Peer, Replay, Said};
 use crate::script::{Lend, Step};
+use crate::sheet::EIGHT_LINES;
 
 /// The lengths that a hub asks for.
 const RIGHT: Lend = Lend { table: SLOTS, records: RECORDS, widths: WIDTHS };
@@ -64,7 +66,9 @@ impl Requests {
             43 | 44 => self.swapped(),
             45..=59 => self.open(),
             60..=66 => self.close(),
-            67..=77 => self.direct(),
+            67..=74 => self.direct(),
+            75 => self.check(),
+            76 | 77 => self.check_at(),
             78..=82 => self.set(),
             83..=87 => self.retry(),
             88..=90 => Step::Show { slot: self.rng.size(SLOTS) },
@@ -195,6 +199,15 @@ impl Requests {
             self.rng.size(SLOTS)
         };
         Step::Direct { slot, part: self.part(slot) }
+    }
+
+    fn check(&mut self) -> Step {
+        Step::Check { part: checks::checked_part(&mut self.rng, EIGHT_LINES) }
+    }
+
+    fn check_at(&mut self) -> Step {
+        let increment = checks::increment(&mut self.rng);
+        Step::CheckAt { increment, part: checks::checked_part(&mut self.rng, increment) }
     }
 
     /// An entry in range, damaged, or closed with anything in it.

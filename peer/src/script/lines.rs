@@ -8,7 +8,7 @@ use crate::model::{AREA, FONTS};
 type Read = fn(&mut Words<'_>) -> Result<Step, Bad>;
 
 /// The form of each line, and what reads the words after the first. D stands for twelve numbers.
-const LINES: [(&str, Read); 13] = [
+const LINES: [(&str, Read); 15] = [
     ("widths N", |words| Ok(Step::Widths(words.width()?))),
     ("width F C N", width),
     ("fill N", |words| Ok(Step::Fill(words.byte()?))),
@@ -19,6 +19,10 @@ const LINES: [(&str, Read); 13] = [
     ("close S K", |words| Ok(Step::Close { slot: words.long()?, key: words.long()? })),
     ("count", |_| Ok(Step::Count)),
     ("direct S HEX", |words| Ok(Step::Direct { slot: words.slot()?, part: words.bytes()? })),
+    ("check HEX", |words| Ok(Step::Check { part: words.bytes()? })),
+    ("check-at N HEX", |words| {
+        Ok(Step::CheckAt { increment: words.long()?, part: words.bytes()? })
+    }),
     (
         "set S KEY OPEN D I B MARGIN INCREMENT ADJUSTMENT DIRECTION FONT COLOUR SPACE SUPPRESSION \
          CHAIN NEXT USED",

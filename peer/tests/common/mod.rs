@@ -5,7 +5,11 @@
 use peer::hub::{self, Lent};
 use peer::model::{position, RECORDS, SLOTS, WIDTHS};
 use peer::record::{records, Record};
+use peer::sheet::{self, SIX_LINES};
 use peer::{Answer, Descriptor, Entry, State};
+
+/// The sheet of document 01's rows.
+pub const DESCRIPTOR: Descriptor = sheet::descriptor(SIX_LINES);
 
 /// Bytes of hex digits; spaces don't count.
 pub fn hex(digits: &str) -> Vec<u8> {

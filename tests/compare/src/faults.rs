@@ -1,10 +1,11 @@
 //! Hubs with one thing wrong, which the tests have to find.
 
 use peer::hub::Lent;
-use peer::model::{AREA, SLOTS};
+use peer::model::{AREA, GREATEST_DISTANCE, LONGEST_PART, SLOTS};
 use peer::reader::{read, Element, CHAIN, DBR, DIR, SIA, STO};
 use peer::record::HEADER;
 use peer::replay::Backend;
+use peer::sheet::{self, SIX_LINES, WIDTHS_144};
 use peer::{Answer, Code, Descriptor, Entry, State};
 
 /// What is wrong, and which test is to find it.
@@ -25,13 +26,17 @@ pub enum Fault {
     PartRefusal,
     PartPlace,
     CheckCode,
+    CheckSix,
+    CheckDefault,
+    CheckOrder,
+    CheckBound,
     Order,
     Retaken,
     Reclosed,
 }
 
 /// Every fault, its name for `--break`, and the test that is to find it.
-pub const FAULTS: [(Fault, &str, &str); 18] = [
+pub const FAULTS: [(Fault, &str, &str); 22] = [
     (Fault::FreshKey, "fresh-key", "requests"),
     (Fault::OpenKey, "open-key", "requests"),
     (Fault::CloseForgets, "close-forgets", "requests"),
@@ -47,6 +52,10 @@ pub const FAULTS: [(Fault, &str, &str); 18] = [
     (Fault::PartRefusal, "part-refusal", "parts"),
     (Fault::PartPlace, "part-place", "parts"),
     (Fault::CheckCode, "check-code", "parts"),
+    (Fault::CheckSix, "check-six", "parts"),
+    (Fault::CheckDefault, "check-default", "parts"),
+    (Fault::CheckOrder, "check-order", "parts"),
+    (Fault::CheckBound, "check-bound", "parts"),
     (Fault::Order, "order", "swap"),
     (Fault::Retaken, "retaken", "repeat"),
     (Fault::Reclosed, "reclosed", "repeat"),
@@ -156,11 +165,30 @@ impl<B: Backend> Backend for Broken<B> {
     }
 
     fn check(&mut self, part: &[u8]) -> u32 {
+        if self.is(Fault::CheckSix) {
+            return self.hub.check_at(part, SIX_LINES);
+        }
         match self.hub.check(part) {
             code if code == Code::Position as u32 && self.is(Fault::CheckCode) => {
                 Code::Outside as u32
             }
             code => code,
+        }
+    }
+
+    fn check_at(&mut self, part: &[u8], increment: u32) -> u32 {
+        match self.fault {
+            // The first lines are as asked for, but all ones bring back the old increment.
+            Fault::CheckDefault if increment <= GREATEST_DISTANCE => {
+                let six = sheet::descriptor(SIX_LINES);
+                let mut start = State { increment, ..State::start(&six) };
+                self.hub.direct(part, &WIDTHS_144, &mut [0; AREA], &six, &mut start).code
+            }
+            Fault::CheckOrder if part.len() > LONGEST_PART => Code::Long as u32,
+            Fault::CheckBound if increment == GREATEST_DISTANCE + 1 => {
+                self.hub.check_at(part, GREATEST_DISTANCE)
+            }
+            _ => self.hub.check_at(part, increment),
         }
     }
 }

@@ -4,18 +4,19 @@ use std::fs;
 use std::io;
 use std::path::Path;
 
-use peer::generate::{case, mutate, sized_part, Case, Ground, Rng};
+use peer::generate::{case, checked_part, increment, mutate, sized_part, Case, Ground, Rng};
 use peer::model::{AREA, CODE_POINTS, LONGEST_PART, WIDTHS};
 use peer::replay::{Backend, Peer};
 use peer::script::{Lend, Step};
-use peer::{sheet, Answer, Entry, State};
+use peer::sheet::{self, EIGHT_LINES, SIX_LINES};
+use peer::{Answer, Entry, State};
 
 use crate::codes::Codes;
 use crate::difference::Difference;
 
 /// Sizes from 0 to a few above the longest part, each met once in so many cases.
 const SIZES: u64 = LONGEST_PART as u64 + 9;
-/// One seed in so many has the next size, another a real part with changes.
+/// One seed in so many has the next size, another a real part with changes, two a part for a check.
 const TURNS: u64 = 9;
 /// Seeds in which every size is met.
 pub const ROUND: u64 = SIZES * TURNS;
@@ -39,7 +40,16 @@ fn made(seed: u64, real: &[Vec<u8>]) -> Case {
         1 if !real.is_empty() => {
             let mut part = real[rng.size(real.len())].clone();
             mutate(&mut rng, &mut part);
-            on_sheet(&mut rng, part)
+            on_sheet(&mut rng, part, SIX_LINES)
+        }
+        2 => {
+            let part = checked_part(&mut rng, EIGHT_LINES);
+            on_sheet(&mut rng, part, EIGHT_LINES)
+        }
+        3 => {
+            let increment = increment(&mut rng);
+            let part = checked_part(&mut rng, increment);
+            on_sheet(&mut rng, part, increment)
         }
         _ => case(&mut rng),
     }
@@ -47,19 +57,20 @@ fn made(seed: u64, real: &[Vec<u8>]) -> Case {
 
 /// A part of just this size.
 fn sized(rng: &mut Rng, size: usize) -> Case {
-    let state = State::start(&sheet::DESCRIPTOR);
-    let ground = Ground { descriptor: sheet::DESCRIPTOR, state, widths: &sheet::WIDTHS_144 };
-    let part = sized_part(rng, &ground, size);
-    on_sheet(rng, part)
+    let descriptor = sheet::descriptor(SIX_LINES);
+    let state = State::start(&descriptor);
+    let part = sized_part(rng, &Ground { descriptor, state, widths: &sheet::WIDTHS_144 }, size);
+    on_sheet(rng, part, SIX_LINES)
 }
 
-fn on_sheet(rng: &mut Rng, part: Vec<u8>) -> Case {
+fn on_sheet(rng: &mut Rng, part: Vec<u8>, increment: u32) -> Case {
+    let descriptor = sheet::descriptor(increment);
     Case {
         part,
         widths: sheet::WIDTHS_144.to_vec(),
         area: vec![rng.byte(); AREA],
-        descriptor: sheet::DESCRIPTOR,
-        state: State::start(&sheet::DESCRIPTOR),
+        descriptor,
+        state: State::start(&descriptor),
     }
 }
 
@@ -73,7 +84,7 @@ pub fn compare<B: Backend + Clone>(
     let mut given = made(seed, real);
     let mut changes = Rng::new(!seed);
     for _ in 0..3 {
-        let found = direct(hub, &given, codes).and_then(|()| checked(hub, &given.part, codes));
+        let found = direct(hub, &given, codes).and_then(|()| checked(hub, &given, codes));
         if let Err((what, steps)) = found {
             return Err(Difference { test: "parts", seed, what, steps });
         }
@@ -106,12 +117,20 @@ fn direct<B: Backend + Clone>(hub: &B, given: &Case, codes: &mut Codes) -> Resul
     Ok(())
 }
 
-/// Compares checking a part alone.
-fn checked<B: Backend + Clone>(hub: &B, part: &[u8], codes: &mut Codes) -> Result<(), Found> {
-    let (got, said) = (hub.clone().check(part), Peer.check(part));
+/// Compares checking a part alone, and at its descriptor's increment, in range or not.
+fn checked<B: Backend + Clone>(hub: &B, given: &Case, codes: &mut Codes) -> Result<(), Found> {
+    let (mut hub, part, increment) = (hub.clone(), &given.part, given.descriptor.increment);
+    let (got, said) = (hub.check(part), Peer.check(part));
+    same(got, said, codes, || Step::Check { part: part.clone() })?;
+    let (got, said) = (hub.check_at(part, increment), Peer.check_at(part, increment));
+    same(got, said, codes, || Step::CheckAt { increment, part: part.clone() })
+}
+
+/// Whether the hub's code and the peer's are one, else the step that tells them apart.
+fn same(got: u32, said: u32, codes: &mut Codes, step: impl Fn() -> Step) -> Result<(), Found> {
     if got != said {
         let what = format!("checked alone the peer says {said}, the hub {got}");
-        return Err((what, alone(part)));
+        return Err((what, vec![step()]));
     }
     codes.add(said);
     Ok(())
@@ -135,10 +154,4 @@ fn steps(case: &Case) -> Vec<Step> {
     steps.push(Step::Lend(Lend { table: 16, records: 65_536, widths }));
     steps.push(Step::Direct { slot: 0, part: case.part.clone() });
     steps
-}
-
-/// A part alone, as a job of its own.
-fn alone(part: &[u8]) -> Vec<Step> {
-    let open = Step::Open { slot: 0, key: 1, descriptor: sheet::DESCRIPTOR };
-    vec![open, Step::Submit { slot: 0, key: 1, number: 1, part: part.to_vec() }]
 }

@@ -40,6 +40,7 @@ pub fn compare<B: Backend + Clone>(
         }
         match said {
             Said::Answer(answer) => codes.add(answer.code),
+            Said::Check(code) => codes.add(code),
             Said::Count(_) => codes.add(0),
             _ => {}
         }

@@ -14,7 +14,7 @@ const OPEN: &str = "open 0 1 12240 15840 0 0 0 240 0 0 0 65287 14 0\n";
 const SET: &str = "set 0 1 1 9 9 0 0 0 0 0 0 0 0 0 0";
 
 /// Lines that are bad, and end a run.
-const BAD: [&str; 29] = [
+const BAD: [&str; 38] = [
     " ",
     "bad",
     "Count",
@@ -36,6 +36,15 @@ const BAD: [&str; 29] = [
     "submit 0 1 1 2G",
     "show 16",
     "direct 16 -",
+    "check",
+    "check 180 C1",
+    "check 2",
+    "Check C1",
+    "check_at 180 C1",
+    "check-at 180",
+    "check-at C1",
+    "check-at -1 C1",
+    "check-at 4294967296 C1",
     "bytes 0 1 0",
     "bytes 0 0 4097",
     "widths 65536",
@@ -45,6 +54,12 @@ const BAD: [&str; 29] = [
     "set 0 1 1 9 9 0 0 0 0 0 0 0 0 0 0 0 0 0 0 0 0 0 0 65535 0 2 1 0",
     "set 0 1 1 9 9 0 0 0 0 0 0 0 0 0 0 -32769 0 0 0 0 0 0 0 65535 0 0 1 0",
 ];
+
+/// Checks of a part far too long, the last at an increment that is refused before that is seen.
+fn checks() -> String {
+    let part = "C1".repeat(1 << 21);
+    format!("check {part}\ncheck-at 32767 {part}\ncheck-at 32768 {part}\n")
+}
 
 /// Scripts and what they print.
 fn rows() -> Vec<(Vec<u8>, String)> {
@@ -63,6 +78,10 @@ fn rows() -> Vec<(Vec<u8>, String)> {
         row("close 4294967295 4294967295\n", "11 0 0\n"),
         row("submit 0 1 1 2b\n", "16 0 0\n"),
         row("bytes 0 0 0\nbytes 15 4096 4096\n", "-\n-\n"),
+        row("check -\ncheck 2b\ncheck-at 00240 c1\n", "CHECK 0\nCHECK 20\nCHECK 0\n"),
+        row("check-at 32767 -\ncheck-at 32768 -\n", "CHECK 0\nCHECK 15\n"),
+        row("check-at 4294967295 2B\n", "CHECK 15\n"),
+        row(&checks(), "CHECK 19\nCHECK 19\nCHECK 15\n"),
         row("lend 20 65540 1028\ncount\nclose 0 1\n", "COUNT 0\n10 0 0\n"),
         row("lend 0 0 0\nsubmit 0 1 1 -\ndirect 0 -\n", "10 0 0\n10 0 0\n"),
         row(&format!("{SET} -0 -007 0 0 0 0 0 0 65535 0 0 1 0\ncount\n"), "COUNT 1\n"),

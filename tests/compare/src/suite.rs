@@ -126,7 +126,8 @@ impl Suite {
         let ran = seeds
             .try_for_each(|seed| parts::compare(&self.hub, seed, &self.real, &mut codes))
             .map_err(|difference| self.reported(difference));
-        let parts = codes.total() / 2;
+        // Each is interpreted, checked, and checked at an increment.
+        let parts = codes.total() / 3;
         let told = ran.and_then(|()| enough("parts", parts, LEAST)).map(|()| {
             format!("{parts} parts, interpreted and checked: same answers, states and record bytes")
         });
