@@ -10,13 +10,13 @@
 #include "things.h"
 
 enum { ENTRY = sizeof(halviruso_entry), MOST_ENTRIES = 24, MOST_RECORDS = 70000, MOST_AREA = 4400, MOST_WIDTHS = 1200 };
-enum { OPEN, SUBMIT, CLOSE, COUNT, INTERPRET, CHECK, FRESH, ENTRIES };
+enum { OPEN, SUBMIT, CLOSE, COUNT, INTERPRET, CHECK, CHECK_AT, FRESH, ENTRIES };
 
-static const char *const NAMES[] = {"open", "submit", "close", "count", "interpret", "check", "fresh"};
+static const char *const NAMES[] = {"open", "submit", "close", "count", "interpret", "check", "check_at", "fresh"};
 
 static lend table, records, area, widths, part;
 static enum side guarded;
-static int around_changes, within_changes, answer_changes, place_changes, place_leaves, record_empties; /* wrong on purpose */
+static int around_changes, within_changes, answer_changes, place_changes, place_leaves, record_empties, increment_passes; /* wrong on purpose */
 
 /* What was lent, as it must be after the call. */
 static halviruso_entry old_table[MOST_ENTRIES];
@@ -60,6 +60,7 @@ void tries_start(enum side side, const char *wrong) {
     place_changes = strcmp(wrong, "place") == 0;
     place_leaves = strcmp(wrong, "beyond") == 0;
     record_empties = strcmp(wrong, "empty") == 0;
+    increment_passes = strcmp(wrong, "increment") == 0;
     signal(SIGSEGV, on_fault);
     signal(SIGBUS, on_fault);
 }
@@ -284,6 +285,27 @@ static void try_check(void) {
     met[CHECK][code]++;
 }
 
+/* In range and not, often at its ends. */
+static uint32_t any_increment(void) {
+    static const uint32_t ENDS[] = {0, 1, 180, 240, 15840, 32766, 32767, 32768, 65535, 65716, 1u << 31, UINT32_MAX};
+    return once_in(4) ? any() : once_in(4) ? between(0, 32767) : PICK(ENDS);
+}
+
+static void try_check_at(void) {
+    uint32_t increment = any_increment();
+    lend_part(0);
+    inside = 1;
+    uint32_t code = halviruso_check_at(at(&part), part_bytes, increment);
+    uint32_t eight = halviruso_check_at(at(&part), part_bytes, 180), plain = halviruso_check(at(&part), part_bytes);
+    inside = 0;
+    if (increment_passes && increment > 32767)
+        code = eight;
+    expect(code < 30 && ((increment > 32767 ? BITS(15, 15) : BITS(0, 0) | BITS(19, 29)) >> code & 1), "a code that isn't the increment's");
+    expect(code < 20 || part_bytes > 0, "an element at fault in an empty part");
+    expect(eight == plain, "the check isn't the one at 180");
+    met[CHECK_AT][code]++;
+}
+
 static void try_fresh(void) {
     inside = 1;
     halviruso_table t = halviruso_fresh();
@@ -294,8 +316,8 @@ static void try_fresh(void) {
 }
 
 void try_one(void) {
-    static void (*const TRIES[])(void) = {try_open, try_submit, try_close, try_count, try_interpret, try_check, try_fresh};
-    static const unsigned char TURNS[] = {OPEN, SUBMIT, SUBMIT, SUBMIT, SUBMIT, CLOSE, COUNT, INTERPRET, INTERPRET, INTERPRET, INTERPRET, CHECK, CHECK};
+    static void (*const TRIES[])(void) = {try_open, try_submit, try_close, try_count, try_interpret, try_check, try_check_at, try_fresh};
+    static const unsigned char TURNS[] = {OPEN, SUBMIT, SUBMIT, SUBMIT, SUBMIT, CLOSE, COUNT, INTERPRET, INTERPRET, INTERPRET, INTERPRET, CHECK, CHECK, CHECK_AT};
     entry = once_in(50) ? FRESH : PICK(TURNS);
     TRIES[entry]();
     calls_made++;

@@ -6,7 +6,7 @@
 
 /* Makes the slices. What is named is wrong on purpose: a slice (table, records, area, widths, part) claims a byte that it doesn't have; or, as if the
  * library had done it, a byte changes around what is lent (around) or within it (within), an answer is another (answer), a refusal points at the
- * next byte (place) or past the part (beyond), or a record has nothing to draw (empty). */
+ * next byte (place) or past the part (beyond), a record has nothing to draw (empty), or any increment is taken (increment). */
 void tries_start(enum side side, const char *wrong);
 
 /* One call of some entry; leaves with status 1 if something doesn't hold. */

@@ -140,6 +140,8 @@ static void pointers(void)
     CHECK(is(halviruso_open(NULL, 0, 0, 1, UNLIKE), HALVIRUSO_LENT_LENGTH, 0, 0));
     CHECK(halviruso_count(NULL, 0) == 0);
     CHECK(halviruso_check(NULL, 0) == HALVIRUSO_DONE);
+    CHECK(halviruso_check_at(NULL, 0, 0) == HALVIRUSO_DONE);
+    CHECK(halviruso_check_at(NULL, 0, 32768) == HALVIRUSO_BAD_DESCRIPTOR);
     CHECK(is(halviruso_open(lent.table.entries, HALVIRUSO_SLOTS, 0, 1, UNLIKE), HALVIRUSO_DONE, 0, 0));
     CHECK(is(submit(0, 1, 1, NULL, 0), HALVIRUSO_DONE, 0, 0));
     CHECK(is(submit(0, 1, 2, (const uint8_t *)"\xC1\xC2" + 1, 1), HALVIRUSO_DONE, 1, 17));
@@ -300,6 +302,8 @@ static void lengths_are_not_cut(void)
         return;
     }
     CHECK(halviruso_check(part, length) == HALVIRUSO_LONG_PART);
+    CHECK(halviruso_check_at(part, length, 32767) == HALVIRUSO_LONG_PART);
+    CHECK(halviruso_check_at(part, length, 32768) == HALVIRUSO_BAD_DESCRIPTOR);
     munmap(part, length);
 }
 

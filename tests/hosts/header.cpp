@@ -28,5 +28,6 @@ int main()
     wrong += halviruso_count(table.entries, HALVIRUSO_SLOTS) != 1;
     wrong += halviruso_close(table.entries, HALVIRUSO_SLOTS, 0, 1).code != HALVIRUSO_DONE;
     wrong += halviruso_check(part, sizeof part) != HALVIRUSO_DONE;
+    wrong += halviruso_check_at(part, sizeof part, 32768) != HALVIRUSO_BAD_DESCRIPTOR;
     return wrong == 0 ? 0 : 1;
 }

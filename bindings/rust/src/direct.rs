@@ -43,7 +43,8 @@ pub fn first_state(descriptor: Descriptor) -> Result<State, Answer> {
     }
 }
 
-/// Checks one part alone, on a sheet of 12,240 by 15,840 with every character 144 wide: 0, or 19 to 29.
+/// Checks one part alone, on a sheet of 12,240 by 15,840 with every character 144 wide and eight
+/// lines to the inch: 0, or 19 to 29.
 ///
 /// ```
 /// use halviruso::{check, Code};
@@ -53,4 +54,22 @@ pub fn first_state(descriptor: Descriptor) -> Result<State, Answer> {
 /// ```
 pub fn check(part: &[u8]) -> Code {
     Code(ffi::check(part))
+}
+
+/// The same at a baseline increment: 180 is that of [`check`], 240 six lines to the inch.
+///
+/// Above 32,767 it is 15, whatever the part.
+///
+/// ```
+/// use halviruso::{check, check_at, Code};
+///
+/// // Down to 15,660, one line more, a character: the sheet ends at 15,840.
+/// let foot = b"\x2B\xD3\x04\xD3\x3D\x2C\x02\xD8\xC1";
+/// assert_eq!(check(foot), Code::DONE);
+/// assert_eq!(check_at(foot, 180), Code::DONE);
+/// assert_eq!(check_at(foot, 240), Code::OUTSIDE);
+/// assert_eq!(check_at(foot, 32_768), Code::BAD_DESCRIPTOR);
+/// ```
+pub fn check_at(part: &[u8], increment: u32) -> Code {
+    Code(ffi::check_at(part, increment))
 }

@@ -49,6 +49,7 @@ mod c {
             state: State,
         ) -> Interpreted;
         pub fn halviruso_check(part: *const u8, part_length: usize) -> u32;
+        pub fn halviruso_check_at(part: *const u8, part_length: usize, increment: u32) -> u32;
     }
 }
 
@@ -128,4 +129,9 @@ pub(crate) fn interpret(
 pub(crate) fn check(part: &[u8]) -> u32 {
     // SAFETY: pointer and length are one slice's, borrowed for the call and only read.
     unsafe { c::halviruso_check(part.as_ptr(), part.len()) }
+}
+
+pub(crate) fn check_at(part: &[u8], increment: u32) -> u32 {
+    // SAFETY: pointer and length are one slice's, borrowed for the call and only read.
+    unsafe { c::halviruso_check_at(part.as_ptr(), part.len(), increment) }
 }

@@ -159,7 +159,7 @@ mod records;
 mod shapes;
 
 pub use answer::{Answer, Code};
-pub use direct::{check, first_state, interpret};
+pub use direct::{check, check_at, first_state, interpret};
 pub use hub::Hub;
 pub use records::{Record, Records};
 pub use shapes::{Descriptor, Entry, Interpreted, Point, State};

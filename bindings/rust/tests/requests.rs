@@ -1,8 +1,8 @@
 //! The wrapper hands on what the library answers.
 
 use halviruso::{
-    check, first_state, interpret, Answer, Code, Descriptor, Hub, Point, State, ABSENT, AREA,
-    ORIGIN, PART, WIDTHS,
+    check, check_at, first_state, interpret, Answer, Code, Descriptor, Hub, Point, State, ABSENT,
+    AREA, ORIGIN, PART, WIDTHS,
 };
 
 /// Every character is a tenth of an inch wide.
@@ -188,7 +188,29 @@ fn parts_are_checked_alone() {
     ];
     for (part, code) in cases {
         assert_eq!(check(part), code);
+        assert_eq!(check_at(part, 180), code);
+        assert_eq!(check_at(part, 32_768), Code::BAD_DESCRIPTOR);
     }
+}
+
+/// So many lines down, and a character there.
+fn below(lines: usize) -> Vec<u8> {
+    let mut part = b"\x2B\xD3\x02\xD8".repeat(lines);
+    part.push(0xC1);
+    part
+}
+
+#[test]
+fn parts_are_checked_at_an_increment() {
+    assert_eq!([88, 89].map(|lines| check(&below(lines))), [Code::DONE, Code::OUTSIDE]);
+    assert_eq!([66, 67].map(|lines| check_at(&below(lines), 240)), [Code::DONE, Code::OUTSIDE]);
+    assert_eq!([1, 1_000].map(|lines| check_at(&below(lines), 0)), [Code::DONE; 2]);
+    assert_eq!(
+        [0, 1, 2].map(|lines| check_at(&below(lines), 32_767)),
+        [Code::DONE, Code::OUTSIDE, Code::POSITION]
+    );
+    assert_eq!(check_at(&[0xC1; PART + 1], 32_767), Code::LONG_PART);
+    assert_eq!(check_at(b"", u32::MAX), Code::BAD_DESCRIPTOR);
 }
 
 #[test]
