@@ -22,6 +22,6 @@ def text(*names):
 
 
 def listing(name):
-    """A stored listing: of a bundled part that of the listing program's own tests, else one beside these tests."""
-    program = os.path.join('..', 'listing', 'real', f'{name}-p01o01x01.out')
+    """A stored listing: of a bundled part that of the listing programs' own tests, else one beside these tests."""
+    program = os.path.join('..', 'listing', '180', 'real', f'{name}-p01o01x01.out')
     return text(program) if os.path.exists(os.path.join(HERE, program)) else text('listings', name)

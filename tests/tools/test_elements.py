@@ -14,7 +14,7 @@ from elements.served import Served
 from elements.shapes import AREA, Answer, Descriptor, Entry, Interpreted, NoLibrary, State
 from elements.walk import disagreements, walk
 from paths import LIBRARY, RUN, STANDIN
-from ptoca.sheet import DESCRIPTOR
+from ptoca.sheet import INCREMENT, descriptor as sheet_at
 from ptoca.widths import every
 
 
@@ -64,6 +64,20 @@ def last_lines(name, words, expected):
     return test
 
 
+class Increments(unittest.TestCase):
+    """Two lines and a character, at the increment that is asked for."""
+
+    def test_180_without_one_and_others(self):
+        for words, increment in ((), 180), (('--increment', '240'), 240), (('--increment', '0'), 0), (('--increment', '7000'), 7000):
+            with tempfile.TemporaryDirectory() as folder:
+                part = os.path.join(folder, 'lines.part')
+                with open(part, 'wb') as file:
+                    file.write(bytes.fromhex('2BD302D902D8C1'))
+                rows = run_elements(part, *words).stdout.splitlines()
+            self.assertEqual(rows[0], f'lines.part: 7 bytes, baseline increment {increment:,}')
+            self.assertEqual(rows[-1], f'accepted: 3 elements, 17 record bytes; ends at I 144, B {2 * increment}')
+
+
 for file_name, (options, *ending) in LAST.items():
     setattr(Expected, 'test_end_of_' + file_name.split('-p')[0].replace('-', '_'), last_lines(file_name, options, ending))
 
@@ -94,7 +108,7 @@ class Disagreeing(unittest.TestCase):
         cls.library.close()
 
     def told(self, hexadecimal, change):
-        part, descriptor, area, whole_area = bytes.fromhex(hexadecimal), Descriptor(**DESCRIPTOR), bytearray(AREA), bytearray(AREA)
+        part, descriptor, area, whole_area = bytes.fromhex(hexadecimal), Descriptor(**sheet_at(INCREMENT)), bytearray(AREA), bytearray(AREA)
         library = Lying(self.library, part, change)
         _, start = library.opened(descriptor)
         whole, end = library.interpret(part, every(), whole_area, descriptor, start)

@@ -55,10 +55,14 @@ class Files(Elements):
     def test_wrong_words(self):
         self.assert_fault("argument --codepage: invalid choice: '5' (choose from '1252', '500')", 'ok', '--codepage', '5')
 
+    def test_an_increment_out_of_range(self):
+        for word in ('32768', '-1', 'x'):
+            self.assert_fault(f'--increment: {word!r} is no number from 0 to 32,767', 'ok', f'--increment={word}')
+
     def test_a_name_that_is_no_text(self):
         name = os.fsdecode(b'\xFF\n')
         self.file(name, b'')
-        self.assertEqual(self.run_tool(name).stdout.splitlines()[0], b'\\udcff\\n: 0 bytes')
+        self.assertEqual(self.run_tool(name).stdout.splitlines()[0], b'\\udcff\\n: 0 bytes, baseline increment 180')
         self.assert_fault('\\udcff\\n/: Not a directory', name + '/')
 
 
@@ -101,7 +105,7 @@ class LongParts(Elements):
             self.file('long', bytes(size))
             made = self.run_tool('long', *words)
             self.assertEqual((made.returncode, made.stderr), (0, b''))
-            self.assertEqual(made.stdout.decode(), f'long: {size:,} bytes\nrefused with 19: the part is above 8,192 bytes\n')
+            self.assertEqual(made.stdout.decode(), f'long: {size:,} bytes, baseline increment 180\nrefused with 19: the part is above 8,192 bytes\n')
 
     def test_parts_that_are_too_long(self):
         self.assert_too_long()

@@ -92,7 +92,7 @@ class Picture(unittest.TestCase):
         self.assertEqual([line.get('x1') for line in having(group(tree, 'guides'), 'line', 'margin')], ['720'])
 
     def test_of_a_rule_with_no_ink_nothing_is_drawn(self):
-        tree = of_text(paths.text('..', 'listing', 'no-ink-chained.out'))
+        tree = of_text(paths.text('..', 'listing', '180', 'no-ink-chained.out'))
         self.assertEqual([node.get('height') for node in having(group(tree, 'items'), 'rect', 'rule')], ['14', '11'])
         self.assertEqual((len(group(tree, 'items')), having(tree, 'path', 'bare')), (2, []))
 
@@ -140,7 +140,7 @@ class Command(unittest.TestCase):
 
     def test_the_stored_picture_is_what_the_tool_draws(self):
         part = paths.real('c-table-p01o01x01.part')
-        made = self.run_page('--part', part, given=paths.listing('c-table'))
+        made = self.run_page('--increment', '180', '--part', part, given=paths.listing('c-table'))
         with open(os.path.join(paths.ROOT, 'docs', 'page.svg'), encoding='utf-8') as file:
             self.assertEqual(made.stdout, file.read())
 

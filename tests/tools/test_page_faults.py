@@ -172,6 +172,16 @@ class Options(Page):
         self.assert_fault("argument --codepage: invalid choice: '37' (choose from '1252', '500')", '--codepage', '37')
         self.assert_fault('unrecognized arguments: a\\nb', 'ok', 'a\nb')
 
+    def test_an_increment_out_of_range(self):
+        for word in ('32768', '-1', 'x', '', '1' * 30):
+            shown = repr(word if len(word) < 25 else word[:22] + '..')
+            self.assert_fault(f'--increment: {shown} is no number from 0 to 32,767', 'ok', f'--increment={word}')
+
+    def test_an_increment_for_a_job(self):
+        self.file('job', b'JOB 0 0 1 1 0 0 0 0 0 0 0 0 0 0 0 0 0 0 0 0 0 0 65535 0 0 1 0\nEND\n')
+        self.assertEqual(self.run_tool('job').returncode, 0)
+        self.assert_fault('--increment: a job tells its own', 'job', '--increment', '180')
+
     def test_a_part_that_is_not_there_or_a_folder(self):
         self.assert_fault('none: No such file or directory', 'ok', '--part', 'none')
         self.assert_fault('folder: Is a directory', 'ok', '--part', 'folder')

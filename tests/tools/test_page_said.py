@@ -37,6 +37,22 @@ class Captions(unittest.TestCase):
     def test_the_numbers_of_a_job(self):
         self.assertEqual(texts(drawn('job'), 'facts'), ['open, 2 parts taken, 51 record bytes, ends at I 1,924, B 720'])
 
+    def fine(self, tree):
+        """The first row in fine print."""
+        return texts(group(tree, 'caption'), 'fine')[0]
+
+    def test_the_increment_of_a_job_is_its_descriptors(self):
+        self.assertEqual(self.fine(job(increment=180, state_increment=50)), '8.5 by 11 inches, baseline increment 180; ruler in inches, letters by code page 500')
+        self.assertIn(' baseline increment 4,294,967,295;', self.fine(job(increment=GREATEST)))
+
+    def test_a_listing_is_said_to_be_made_at_one(self):
+        shown = of('PART 0\nEND 0 0 0 0\n')[0]
+        shown.descriptor['increment'] = 240
+        self.assertEqual(self.fine(tree_of(shown)), '8.5 by 11 inches, baseline increment 240; ruler in inches, letters by code page 500')
+
+    def test_else_it_is_not_told(self):
+        self.assertEqual(self.fine(part(0, 0)), '8.5 by 11 inches, baseline increment not told; ruler in inches, letters by code page 500')
+
     def test_a_long_part_has_its_real_size(self):
         refused = 'PART 8193\nREFUSED 19 0\n'
         self.assertEqual(texts(of_text(refused, part=bytes(20000)), 'facts'), ['20,000 bytes, nothing placed'])

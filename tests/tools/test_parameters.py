@@ -7,7 +7,7 @@ from elements.served import Served
 from elements.shapes import AREA, Descriptor
 from ptoca.cutting import element_with
 from ptoca.sequences import SEQUENCES, parameter_at
-from ptoca.sheet import DESCRIPTOR
+from ptoca.sheet import INCREMENT, descriptor as sheet_at
 from ptoca.widths import every
 
 # for each parameter a sequence in which it is the first at fault, from LENGTH on
@@ -29,7 +29,7 @@ class Named(unittest.TestCase):
         return Loaded(paths.STANDIN)
 
     def refused(self, library, part):
-        descriptor = Descriptor(**DESCRIPTOR)
+        descriptor = Descriptor(**sheet_at(INCREMENT))
         _, state = library.opened(descriptor)
         answer, _ = library.interpret(part, every(), bytearray(AREA), descriptor, state)
         return answer

@@ -1,8 +1,9 @@
-"""python3 tools/elements PART [--after PART]... [--widths FILE] [--codepage 500|1252] [--library FILE] [--run COMMAND]
+"""python3 tools/elements PART [--after PART]... [--increment N] [--widths FILE] [--codepage 500|1252] [--library FILE] [--run COMMAND]
 
 Prints a part as its elements, one a line: offset, TYPE, PTOCA's name, the values, and what the element placed or moved. What
-is accepted, placed or refused is what the library answers, and the part as a whole must get the same answer. Below a refusal stand
-the bytes around it: ^^ under the one that it names, -- under the others of its element, .. where more of them follow.
+is accepted, placed or refused is what the library answers, and the part as a whole must get the same answer. The sheet is that of
+the listing programs, at the increment N, 180 without it. Below a refusal stand the bytes around it: ^^ under the one that it names,
+-- under the others of its element, .. where more of them follow.
 The library is a shared one (.so), or a host program of it, as `make elements` builds; `--run` is the emulator for that, if it needs one.
 Exit status 0: shown, a refused part too. 1: shown, and the library disagrees with itself. 2: it can't be done; one line on
 standard error says why, and nothing is printed."""
@@ -20,7 +21,7 @@ from elements.walk import disagreements, walk
 from ptoca.command import Parser, run
 from ptoca.files import read, say
 from ptoca.letters import CODE_PAGES
-from ptoca.sheet import DESCRIPTOR
+from ptoca.sheet import INCREMENT, descriptor as sheet_at, given_increment
 from ptoca.widths import read as read_widths
 from ptoca.words import Wrong, one_line, plural
 
@@ -31,6 +32,7 @@ def arguments():
     parser = Parser(prog='elements', description='Prints a part as its elements, by what the library answers.')
     parser.add_argument('part', help='a file with one part')
     parser.add_argument('--after', action='append', default=[], metavar='PART', help='a part of the same job before it; may be given again')
+    parser.add_argument('--increment', default=str(INCREMENT), metavar='N', help="the sheet's baseline increment; 180 without it")
     parser.add_argument('--widths', help='1,024 numbers; every width 144 without it')
     parser.add_argument('--codepage', choices=sorted(CODE_PAGES), default='500', help='how bytes are shown as letters')
     parser.add_argument('--library', default=HOST, help='a shared library, or a host of it; build/elements-host without it')
@@ -58,11 +60,12 @@ def arrived(library, given, widths, area, descriptor):
 
 def shown(library, given):
     """The exit status, and all that is printed."""
-    part, widths, descriptor, area = read(given.part), read_widths(given.widths), Descriptor(**DESCRIPTOR), bytearray(AREA)
+    increment = given_increment(given.increment)
+    part, widths, descriptor, area = read(given.part), read_widths(given.widths), Descriptor(**sheet_at(increment)), bytearray(AREA)
     start = arrived(library, given, widths, area, descriptor)
     whole_area = bytearray(area)
     whole, end = library.interpret(part, widths, whole_area, descriptor, start)
-    head = f'{one_line(os.path.basename(given.part))}: {plural(len(part), "byte")}'
+    head = f'{one_line(os.path.basename(given.part))}: {plural(len(part), "byte")}, baseline increment {increment:,}'
     if 10 <= whole.code <= 19:
         return 0, [head, refusal(whole)]
     steps = walk(library, part, widths, area, descriptor, start)

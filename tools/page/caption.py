@@ -33,6 +33,12 @@ def facts(shown, part):
     return ', '.join([taken(shown), plural(end['used'], 'record byte'), place])
 
 
+def increment(shown):
+    """The baseline increment: a job's own, or the one that a listing is said to be made at."""
+    told = shown.descriptor['increment']
+    return 'baseline increment not told' if told is None else f'baseline increment {told:,}'
+
+
 def rows(shown, name, part, code_page, reason):
     """All but the legend, with the class of each. The reason is why the sheet is empty, where there is no room on it."""
     inches = ' by '.join(f'{extent / INCH:.3f}'.rstrip('0').rstrip('.') for extent in drawn_size(shown))
@@ -43,7 +49,7 @@ def rows(shown, name, part, code_page, reason):
         yield 'facts', reason
     for warning in warnings(shown):
         yield 'warning', warning
-    yield 'fine', f'{inches} inches, ruler in inches; letters by code page {code_page}'
+    yield 'fine', f'{inches} inches, {increment(shown)}; ruler in inches, letters by code page {code_page}'
 
 
 def caption(said, marks, code_page, y, width):

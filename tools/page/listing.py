@@ -1,7 +1,7 @@
 """Reads what is to be drawn: a listing (PART .. END or REFUSED), or a job shown by replay (JOB .. END)."""
 from dataclasses import dataclass, field
 
-from ptoca.sheet import DESCRIPTOR, FIELDS
+from ptoca.sheet import FIELDS, descriptor as sheet_at
 from ptoca.words import Wrong, number, plural, quoted
 
 STATE = ('i', 'b', 'margin', 'increment', 'adjustment', 'direction', 'font', 'colour', 'space', 'suppression', 'chain', 'next', 'used')
@@ -40,7 +40,7 @@ class Rule:
 @dataclass
 class Shown:
     """One sheet: its descriptor, what stands on it, and the numbers that came with it."""
-    descriptor: dict = field(default_factory=lambda: dict(DESCRIPTOR))
+    descriptor: dict = field(default_factory=lambda: sheet_at(None))  # a listing doesn't tell its increment
     items: list = field(default_factory=list)
     part: int = None     # bytes of the part, of a listing
     end: dict = None     # final i and b; elements and added, of a listing; the state and next, of a job
