@@ -7,9 +7,9 @@ FN              the function, in crates/hub/src/table.rt
 MODULE::CALLEE  the covered callee: it takes the entry and then the passed parameters, in order, and answers an `Out`
 PARAMS          the parameters as the source has them, on one line. The first is `table: &mut [Entry]`; one is `slot: u32`. The others may be an integer to u64 or usize,
                 a bool, a struct of crates/part/src/shapes.rt by value, `&[u16]`, `&mut [u8]` (any integer) and `&mut u32` (any integer)
-PASSED          the names of those passed: the last ones, and among them every reference but the table
+PASSED          the names of those passed, in their order; among them is every reference but the table
 REQUEST         the request whose step the contract cites (crates/hub/specs/Requests.antt), a term over the parameters' names; what a reference shows at entry is `name .now`
-                The callee says that the `Out` is `onEntry` of it and, under ×, what each `&mut` beside the table holds then, as `onRecords` has it
+                The callee says that the `Out` is `onEntry` of it and, under ×, what each `&mut` beside the table holds then, as `onRecords` and `onStored` have it
 --sizes         the further lengths that the body tests, in its order, after the table's
 --requires      the callee has `requires { ⌜ slot < 16 ⌝ }`, and with --sizes `requires { ⌜ (slot < 16) × ((length (records .now) ≡ 65536) × (length (widths .now) ≡ 1024)) ⌝ }`
 """
@@ -25,8 +25,8 @@ while args and args[0].startswith('--'):
 if len(args) != 4: sys.exit(__doc__)
 callee, params, passed, request = args
 
-# what a step is on beside the table: the widths, and the other fields of `Requests.Hub` in their order. What a function isn't lent may be anything
-HUB = {'records': 'List ℕ'}
+# what a step is on beside the table: the widths, and the other fields of `Requests.Hub` in their order, as a parameter names them. What a function isn't lent may be anything
+HUB = {'records': 'List ℕ', 'open_jobs': 'ℕ'}
 GIVEN = {'widths': 'List ℕ', **HUB}
 
 # ---- the parameters. A parameter's variable is x-NAME, so that it is no name of the proof
@@ -42,8 +42,14 @@ ps = [P(*[x.strip() for x in p.split(':', 1)]) for p in params.split(',')]
 table, rest = ps[0], ps[1:]
 by = {p.name: p for p in ps}
 on = [by[x.strip()] for x in passed.split(',') if x.strip()]
-assert rest[len(rest) - len(on):] == on, 'the passed parameters are the last ones'
-off = rest[:len(rest) - len(on)]
+off = [p for p in rest if p not in on]
+assert [p for p in rest if p in on] == on, 'the parameters are passed in their order'
+# up to the last one that isn't passed what is owned, and what is said of last values, is taken apart and put together again; behind it all is passed as it is
+early = rest[:1 + max([rest.index(p) for p in off], default=-1)]
+late = rest[len(early):]
+def apart(ps): return ''.join('fsplit ! $ drop ! $ ' if p in off else 'fsplit ! $ move ! (1 ∷ []) $ ' for p in ps)
+def together(ps): return ''.join('nothing ! $ fjoin ! $ ' if p in off else 'move ! (1 ∷ []) $ fjoin ! $ ' for p in reversed(ps))
+early_on = [p for p in early if p in on]
 assert all(p in on for p in rest if p.kind in ('slice', 'one')), 'every reference but the table is passed'
 assert by['slot'].ty == 'u32'
 sizes = [(by[n], w) for n, w in sizes]
@@ -207,9 +213,9 @@ w('''  abbrev End : Val → SProp 𝓤
       qed W (%s) ∵ suffices ! _ (ends 𝓤 H A W self.ended (self.clauses 𝓤 H A mem run) %s (answer-val r) r (zs, %s)) $ says ! said $
       %s%s$ fjoin ! $ frame ! $
       owned ! R.the-row (Is R.the-row) (LL.makes R.the-type R′.the-plain 𝓤 H A) r _ is $ done !
-''' % (bound, T, forall, stepped, ' '.join(after(n, 'us') for n in HUB), T, has, has, bound, '(tt, ' * len(off) + 'us' + ')' * len(off),
+''' % (bound, T, forall, stepped, ' '.join(after(n, 'us') for n in HUB), T, has, has, bound, tup(['tt' if p in off else 'us %s' % path(on.index(p)) for p in early], 'us' + ' .1' * len(early_on)),
        'move ! (1 ∷ 2 ∷ []) $ join ! $ frame ! $ gives-up ! E.the-row κ zs (length ys) same-length $ move ! (1 ∷ []) $ ',
-       'fsplit ! $ drop ! $ ' + 'nothing ! $ fjoin ! $ ' * len(off) + 'move ! (1 ∷ 0 ∷ []) '))
+       'fsplit ! $ drop ! $ ' + apart(early_on) + together(early) + 'move ! (1 ∷ 0 ∷ []) '))
 def kept(qs): # from what is passed on to its last values as they were
     if not any(p.mut for p in qs): return ['drop ! $ use0 W (‵ (trues %d)) (silent 𝓤 H A W %d) $' % (len(qs), len(qs))]
     p, r = qs[0], qs[1:]
@@ -237,10 +243,10 @@ w('    walk : ent 𝓤 (onEntry 𝓤 H A self.signature (κ, κs) (q, qs) a vals
 w('    walk =')
 begin = len(out)
 def line(x): w('        ' + x)
-owned_ = 'Rest'
-for p in reversed(off): owned_ = 'fsep (%s .own %s (%s)) (%s)' % (row(p), p.v, vals(p), owned_)
+owned_ = 'owns (%s[]) %s %s' % (''.join(row(p) + ' ∷ ' for p in late), tup([p.v for p in late]), tup([vals(p) for p in late])) if early_on else 'Rest'
+for p in reversed(early): owned_ = 'fsep (%s .own %s (%s)) (%s)' % (row(p), p.v, vals(p), owned_)
 line('qed W ((‵ (flft κ q) ⊛ raw tk) ∷ ‵ (fsep (MutSlice (named 0) κ E.the-row .own (a .0) (s ∷ [])) (%s)) ∷ []) ∵' % owned_)
-unpassed = 'fsplit ! $ drop ! $ ' * len(off)
+unpassed = apart(early) + together(early_on)
 line('split ! $ move ! (2 ∷ []) $ fsplit ! $ fsplit ! $ drop ! $ fsplit ! $ ' + 'move ! (2 ∷ []) $ %smove ! (1 ∷ 2 ∷ 3 ∷ 4 ∷ 0 ∷ []) $' % unpassed)
 line('enter ! C Λ code.function _ _ $')
 line(' '.join('alloc1 ! (λ %s.' % l(i) for i in range(N)) + ' alloc0 ! $ params1 ! $')

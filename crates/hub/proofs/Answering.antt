@@ -58,21 +58,23 @@ decided-plain : {m : Checked Unit} (r : Request) (e f : Entry) → Its r 0 0 →
 decided-plain r e f nought (value _) = plain r 0 0 nought
 decided-plain r e f nought (refusal {code} {at} its) = plain r code at its
 
-open-plain : (slot key : ℕ) (d : Descriptor) (e : Entry) → Plain (Open slot key d) (mayOpen key d e)
+open-plain : (slot key : ℕ) (d : Descriptor) (stored : ℕ) (e : Entry) → Plain (Open slot key d) (mayOpen key d stored e)
 unfolding mayOpen
-open-plain slot key d e =
+open-plain slot key d stored e =
     gives-where (not (damaged e)) 12 _ refl λ _.
     gives-where (not (isOpenUnder e key)) 1 _ refl λ _.
     gives-where (not (isOpen e)) 13 _ refl λ _.
     gives-where (not (isOldKey e key)) 14 _ refl λ _.
-    gives-only (hold (descriptorFields d)) 15 refl
+    gives-where (hold (descriptorFields d)) 15 _ refl λ _.
+    gives-only (stored ∈ upTo 15) 32 refl
 
-close-plain : (slot key : ℕ) (e : Entry) → Plain (Close slot key) (mayClose key e)
+close-plain : (slot key stored : ℕ) (e : Entry) → Plain (Close slot key) (mayClose key stored e)
 unfolding mayClose
-close-plain slot key e =
+close-plain slot key stored e =
     gives-where (not (damaged e)) 12 _ refl λ _.
     gives-where (not (not (isOpen e) && eqb (e .key) key && ltb 0 key)) 1 _ refl λ _.
-    gives-only (isOpenUnder e key) 16 refl
+    gives-where (isOpenUnder e key) 16 _ refl λ _.
+    gives-only (stored ∈ 1 to 16) 32 refl
 
 submit-plain : (slot key number : ℕ) (part : List ℕ) (e : Entry) → Plain (Submit slot key number part) (maySubmit key number e)
 unfolding maySubmit judged
@@ -140,9 +142,9 @@ module _ (widths : List ℕ) (h : Hub) where
 
   its-answered : (r : Request) → Here widths h r → OfTheTable r (onEntry widths h r (entryOf h (slotOf r)) .answer)
   unfolding opening closing
-  its-answered (Open slot key d) x = decided-plain (Open slot key d) (entryOf h slot) _ refl (open-plain slot key d (entryOf h slot))
+  its-answered (Open slot key d) x = decided-plain (Open slot key d) (entryOf h slot) _ refl (open-plain slot key d (h .stored) (entryOf h slot))
   its-answered (Submit slot key number part) x = submit-answered slot key number part x
-  its-answered (Close slot key) x = decided-plain (Close slot key) (entryOf h slot) _ refl (close-plain slot key (entryOf h slot))
+  its-answered (Close slot key) x = decided-plain (Close slot key) (entryOf h slot) _ refl (close-plain slot key (h .stored) (entryOf h slot))
 
   wrong : (r : Request) → OfTheTable r (requests.refusal 10)
   wrong (Open slot key d) = plain _ 10 0 refl

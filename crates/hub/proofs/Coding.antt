@@ -22,6 +22,11 @@ pub stopped : (e : Entry) (n : ℕ) (m : Checked Unit) (done : Out) → coded n 
 stopped e zero m done is h = absurd (h refl)
 stopped e (suc n) m done is h = ap (λ (k : Checked Unit). decided e k done) is
 
+-- the stored number after an open or a close that was refused
+pub stopped-number : (stored other n : ℕ) (m : Checked Unit) → coded n ≡ m → (n ≡ 0 → ⊥) → stored ≡ (if passes m then other else stored)
+stopped-number stored other zero m is h = absurd (h refl)
+stopped-number stored other (suc n) m is h = rw (sym is)
+
 -- the area after a part that was refused
 pub stopped-area : (widths area : List ℕ) (key number : ℕ) (part : List ℕ) (e : Entry) (n : ℕ) → coded n ≡ maySubmit key number e → (n ≡ 0 → ⊥) → area ≡ areaTaken widths key number part area e
 unfolding areaTaken

@@ -16,7 +16,7 @@ use Rattle.hub.proofs.Scan.{talliedAll}
 use Rattle.hub.specs.declared.jobs.Entry.{Entry}
 use Rattle.hub.proofs.Cases.{hit, miss}
 
-abbrev one : Entry → ℕ
+abbrev pub one : Entry → ℕ
 one e = if isOpen e then 1 else 0
 
 one-step : (e : Entry) (n : ℕ) → n < 16 → tallied e n ≡ n + one e
@@ -26,7 +26,7 @@ one-step e n l = of (isOpen e)
     of true = sym (hit (ltb n 16) (n + 1) n (lt→ltb n 16 l))
     of false = sym (add-zero n)
 
-one-le : (t : Bool) → (if t then 1 else 0) ≤ 1
+pub one-le : (t : Bool) → (if t then 1 else 0) ≤ 1
 one-le true = omega arith
 one-le false = omega arith
 

@@ -10,13 +10,13 @@ use lib.Seq.{set-getD, getD-set-same}
 use lib.Dec.{ltb, leb, eqb}
 use borrow.Author.Tests.{lt-ltb, ltb-true, eqb-true, eqb-false, not-true}
 use Rattle.part.specs.Checks.{Checked, fine, fault}
-use Rattle.part.specs.Ranges.{_to_, _∈_, hold, descriptorFields}
+use Rattle.part.specs.Ranges.{upTo, _to_, _∈_, hold, descriptorFields}
 use Rattle.part.specs.Part.{interpreted}
 use Rattle.part.specs.declared.shapes.Descriptor.{Descriptor}
 use Rattle.part.proofs.Checks.{first-of, second-of, Gives, value, refusal, gives-test, gives-where, gives-so}
 use Rattle.part.proofs.Refusals.{untouched}
 use Rattle.hub.specs.Entries.{isOpen, isOpenUnder, isOldKey, damaged, fresh}
-use Rattle.hub.specs.Requests.{mayOpen, judged, maySubmit, mayClose, opening, closing, submitting, areaTaken, areaOf, isTable, isStore, Hub, hub, Request, Open, Submit, Close, slotOf, isLent, onEntry, onRecords, step}
+use Rattle.hub.specs.Requests.{mayOpen, judged, maySubmit, mayClose, opening, closing, oneMore, oneLess, submitting, areaTaken, areaOf, isTable, isStore, Hub, hub, Request, Open, Submit, Close, slotOf, isLent, onEntry, onRecords, onStored, step}
 use Rattle.hub.specs.Histories.{entryOf}
 use Rattle.hub.specs.declared.jobs.Entry.{Entry}
 use Rattle.hub.proofs.Slots.{with-same}
@@ -26,9 +26,11 @@ use Rattle.hub.proofs.Slots.{with-same}
 abbrev pub Refuses : ℕ → ℕ → Type 0
 Refuses code at = eqb code 0 ≡ false
 
-pub record OpenTests (key : ℕ) (d : Descriptor) (e : Entry) : Type 0 where
+pub record OpenTests (key : ℕ) (d : Descriptor) (stored : ℕ) (e : Entry) : Type 0 where
+  pub shut : isOpen e ≡ false
   pub newKey : isOldKey e key ≡ false
   pub ranges : hold (descriptorFields d) ≡ true
+  pub grows : (stored ∈ upTo 15) ≡ true
 
 pub record SubmitTests (key number : ℕ) (e : Entry) : Type 0 where
   pub undamaged : damaged e ≡ false
@@ -37,17 +39,19 @@ pub record SubmitTests (key number : ℕ) (e : Entry) : Type 0 where
   pub isNew : leb (e .next) number ≡ true
   pub isNear : leb number (e .next) ≡ true
 
-pub record CloseTests (key : ℕ) (e : Entry) : Type 0 where
+pub record CloseTests (key stored : ℕ) (e : Entry) : Type 0 where
   pub under : isOpenUnder e key ≡ true
+  pub falls : (stored ∈ 1 to 16) ≡ true
 
-pub open-tests : (key : ℕ) (d : Descriptor) (e : Entry) → Gives (λ _. OpenTests key d e) Refuses (mayOpen key d e)
+pub open-tests : (key : ℕ) (d : Descriptor) (stored : ℕ) (e : Entry) → Gives (λ _. OpenTests key d stored e) Refuses (mayOpen key d stored e)
 unfolding mayOpen
-open-tests key d e =
+open-tests key d stored e =
     gives-where (not (damaged e)) 12 _ refl λ _.
     gives-where (not (isOpenUnder e key)) 1 _ refl λ _.
-    gives-where (not (isOpen e)) 13 _ refl λ _.
+    gives-where (not (isOpen e)) 13 _ refl λ shut.
     gives-where (not (isOldKey e key)) 14 _ refl λ newKey.
-    gives-so (λ _ ranges. record { newKey = not-true (isOldKey e key) newKey; ranges = ranges }) (λ _ _ q. q) (gives-test (hold (descriptorFields d)) 15 refl)
+    gives-where (hold (descriptorFields d)) 15 _ refl λ ranges.
+    gives-so (λ _ grows. record { shut = not-true (isOpen e) shut; newKey = not-true (isOldKey e key) newKey; ranges = ranges; grows = grows }) (λ _ _ q. q) (gives-test (stored ∈ upTo 15) 32 refl)
 
 pub submit-tests : (key number : ℕ) (e : Entry) → Gives (λ _. SubmitTests key number e) Refuses (maySubmit key number e)
 unfolding maySubmit judged
@@ -58,12 +62,13 @@ submit-tests key number e =
     gives-where (leb (e .next) number) 1 _ refl λ isNew.
     gives-so (λ _ isNear. record { undamaged = not-true (damaged e) undamaged; under = under; good = good; isNew = isNew; isNear = isNear }) (λ _ _ q. q) (gives-test (leb number (e .next)) 18 refl)
 
-pub close-tests : (key : ℕ) (e : Entry) → Gives (λ _. CloseTests key e) Refuses (mayClose key e)
+pub close-tests : (key stored : ℕ) (e : Entry) → Gives (λ _. CloseTests key stored e) Refuses (mayClose key stored e)
 unfolding mayClose
-close-tests key e =
+close-tests key stored e =
     gives-where (not (damaged e)) 12 _ refl λ _.
     gives-where (not (not (isOpen e) && eqb (e .key) key && ltb 0 key)) 1 _ refl λ _.
-    gives-so (λ _ under. record { under = under }) (λ _ _ q. q) (gives-test (isOpenUnder e key) 16 refl)
+    gives-where (isOpenUnder e key) 16 _ refl λ under.
+    gives-so (λ _ falls. record { under = under; falls = falls }) (λ _ _ q. q) (gives-test (stored ∈ 1 to 16) 32 refl)
 
 module _ (widths : List ℕ) (h : Hub) where
   -- ---- all lengths are right and the slot is one: the request comes to its entry
@@ -72,7 +77,7 @@ module _ (widths : List ℕ) (h : Hub) where
     pub lent : isLent widths h r ≡ true
     pub low : slotOf r < 16
     pub answers : step widths h r .answer ≡ onEntry widths h r (entryOf h (slotOf r)) .answer
-    pub leaves : step widths h r .after ≡ hub (set (h .table) (slotOf r) (onEntry widths h r (entryOf h (slotOf r)) .entry)) (onRecords widths h r (entryOf h (slotOf r)))
+    pub leaves : step widths h r .after ≡ hub (set (h .table) (slotOf r) (onEntry widths h r (entryOf h (slotOf r)) .entry)) (onRecords widths h r (entryOf h (slotOf r))) (onStored widths h r (entryOf h (slotOf r)))
 
   pub here : (r : Request) → isLent widths h r ≡ true → slotOf r < 16 → Here r
   unfolding step
@@ -85,7 +90,7 @@ module _ (widths : List ℕ) (h : Hub) where
       let both = first-of (a && b) (eqb (length widths) 1024) lent in
       (eqb-true _ 16 (first-of a b both), eqb-true _ 65536 (second-of a b both))
 
-  sixteen : (r : Request) → isLent widths h r ≡ true → length (h .table) ≡ 16
+  pub sixteen : (r : Request) → isLent widths h r ≡ true → length (h .table) ≡ 16
   sixteen (Open slot key d) lent = eqb-true (length (h .table)) 16 lent
   sixteen (Submit slot key number part) lent = sizes lent .0
   sixteen (Close slot key) lent = eqb-true (length (h .table)) 16 lent
@@ -105,33 +110,33 @@ module _ (widths : List ℕ) (h : Hub) where
   -- ---- and all its checks have passed, or it is refused
 
   abbrev pub Passed : Request → Type 0
-  Passed (Open slot key d) = (mayOpen key d (entryOf h slot) ≡ fine tt) × OpenTests key d (entryOf h slot)
+  Passed (Open slot key d) = (mayOpen key d (h .stored) (entryOf h slot) ≡ fine tt) × OpenTests key d (h .stored) (entryOf h slot)
   Passed (Submit slot key number part) =
       (maySubmit key number (entryOf h slot) ≡ fine tt) × SubmitTests key number (entryOf h slot)
       × (interpreted widths (entryOf h slot .descriptor) (entryOf h slot .state) part (areaOf (h .records) slot) .answer .code ≡ 0)
-  Passed (Close slot key) = (mayClose key (entryOf h slot) ≡ fine tt) × CloseTests key (entryOf h slot)
+  Passed (Close slot key) = (mayClose key (h .stored) (entryOf h slot) ≡ fine tt) × CloseTests key (h .stored) (entryOf h slot)
 
   pub data Decision (r : Request) : Type 0 where
     refused : eqb (step widths h r .answer .code) 0 ≡ false → step widths h r .after ≡ h → Decision r
     done : step widths h r .answer .code ≡ 0 → Here r → Passed r → Decision r
 
-  -- an entry put back as it was, beside the same records
-  back : (slot : ℕ) (records : List ℕ) → records ≡ h .records → hub (set (h .table) slot (entryOf h slot)) records ≡ h
+  -- an entry put back as it was, beside the same records and the same number
+  back : (slot : ℕ) (records : List ℕ) → records ≡ h .records → hub (set (h .table) slot (entryOf h slot)) records (h .stored) ≡ h
   back slot records same = rw (set-getD (h .table) slot fresh, same)
 
   open-decided : (slot key : ℕ) (d : Descriptor) → Here (Open slot key d) → Decision (Open slot key d)
-  unfolding opening
-  open-decided slot key d x = go (mayOpen key d (entryOf h slot)) refl (open-tests key d (entryOf h slot))
+  unfolding opening oneMore
+  open-decided slot key d x = go (mayOpen key d (h .stored) (entryOf h slot)) refl (open-tests key d (h .stored) (entryOf h slot))
     where
-      go : (m : Checked Unit) → mayOpen key d (entryOf h slot) ≡ m → Gives (λ _. OpenTests key d (entryOf h slot)) Refuses m → Decision (Open slot key d)
+      go : (m : Checked Unit) → mayOpen key d (h .stored) (entryOf h slot) ≡ m → Gives (λ _. OpenTests key d (h .stored) (entryOf h slot)) Refuses m → Decision (Open slot key d)
       go (fine _) is (value tests) = done (rw (x .answers, is)) x (is, tests)
       go (fault code at) is (refusal q) = refused (rw (x .answers, is) q) (x .leaves ∙ rw is (back slot _ refl))
 
   close-decided : (slot key : ℕ) → Here (Close slot key) → Decision (Close slot key)
-  unfolding closing
-  close-decided slot key x = go (mayClose key (entryOf h slot)) refl (close-tests key (entryOf h slot))
+  unfolding closing oneLess
+  close-decided slot key x = go (mayClose key (h .stored) (entryOf h slot)) refl (close-tests key (h .stored) (entryOf h slot))
     where
-      go : (m : Checked Unit) → mayClose key (entryOf h slot) ≡ m → Gives (λ _. CloseTests key (entryOf h slot)) Refuses m → Decision (Close slot key)
+      go : (m : Checked Unit) → mayClose key (h .stored) (entryOf h slot) ≡ m → Gives (λ _. CloseTests key (h .stored) (entryOf h slot)) Refuses m → Decision (Close slot key)
       go (fine _) is (value tests) = done (rw (x .answers, is)) x (is, tests)
       go (fault code at) is (refusal q) = refused (rw (x .answers, is) q) (x .leaves ∙ rw is (back slot _ refl))
 

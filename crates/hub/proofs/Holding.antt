@@ -167,9 +167,9 @@ holds widths h f rs slot = let s = sound widths h f rs slot in (s .agrees, s .un
 
 -- ---- and there is a fresh table
 
-pub fresh-table : (records : List ℕ) → Fresh (hub freshTable records)
+pub fresh-table : (records : List ℕ) (stored : ℕ) → Fresh (hub freshTable records stored)
 unfolding fresh
-fresh-table records = record { sixteen = refl; allClosed = λ slot. rw (same 16 slot); noKeys = λ slot. rw (same 16 slot) }
+fresh-table records stored = record { sixteen = refl; allClosed = λ slot. rw (same 16 slot); noKeys = λ slot. rw (same 16 slot) }
   where
     same : (n i : ℕ) → getD (replicate n fresh) i fresh ≡ fresh
     same zero i = refl

@@ -1,16 +1,18 @@
 -- Every code but 0 leaves all that was lent untouched; with 0, everything not named stays.
 -- Assumes nothing.
-use Prim.Native.Nat.{ℕ}
+use Prim.Native.Nat.{ℕ, _-_}
 use mathlib.Core.Path.{_≡_, refl, sym}
 use mathlib.Core.List.{List}
 use native.Mathlib.Omega.{arith}
 use lib.ListN.{getD}
-use borrow.Author.Tests.{eqb-false}
+use lib.Dec.{leb}
+use borrow.Author.Tests.{leb-true, eqb-false}
 use Rattle.part.specs.Records.{allBytes}
 use Rattle.part.proofs.Accepting.{accepted}
-use Rattle.hub.specs.Requests.{opening, closing, submitting, areaTaken, areaOf, Hub, Request, Open, Submit, Close, slotOf, step}
+use Rattle.part.proofs.Checks.{first-of}
+use Rattle.hub.specs.Requests.{opening, closing, oneMore, oneLess, submitting, areaTaken, areaOf, Hub, Request, Open, Submit, Close, slotOf, step}
 use Rattle.hub.specs.Histories.{entryOf}
-use Rattle.hub.specs.Promises.{Writes, Stays, OnlyItsOwn, Untouched}
+use Rattle.hub.specs.Promises.{Writes, Stays, Counted, OnlyItsOwn, Untouched}
 use Rattle.hub.proofs.Bytes.{area-outside}
 use Rattle.hub.proofs.Reaching.{table-size, records-size, other-entry}
 use Rattle.hub.proofs.Deciding.{Here, there, whole, Passed, Decision, refused, done, decision}
@@ -37,6 +39,15 @@ module _ (widths : List ℕ) (h : Hub) where
       λ a b. apart (a, rw (there widths h (Submit slot key number part) x, passed .0, passed .2, taken .itsState) (omega arith)))
   bytes-left (Close slot key) x passed at apart = rw (x .leaves)
 
+  -- the stored number
+  number-left : (r : Request) → Here widths h r → Passed widths h r → Counted r (h .stored) (step widths h r .after .stored)
+  unfolding oneMore oneLess
+  number-left (Open slot key d) x passed = rw (x .leaves, passed .0)
+  number-left (Submit slot key number part) x passed = rw (x .leaves)
+  number-left (Close slot key) x passed =
+      let some = leb-true 1 (h .stored) (first-of (leb 1 (h .stored)) (leb (h .stored) 16) (passed .1 .falls)) in
+      rw (x .leaves, passed .0) (omega arith)
+
   pub refused-stays : (r : Request) → (step widths h r .answer .code ≡ 0 → ⊥) → step widths h r .after ≡ h
   refused-stays r k = go (decision widths h r)
     where
@@ -53,6 +64,7 @@ module _ (widths : List ℕ) (h : Hub) where
         entries = λ slot n. other-entry widths h r slot (λ e. n (sym e));
         itsEntry = entry-left r x passed;
         bytes = bytes-left r x passed;
+        number = number-left r x passed;
         tableSize = table-size widths h r;
         recordsSize = records-size widths h r;
       }

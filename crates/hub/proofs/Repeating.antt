@@ -9,6 +9,7 @@ use lib.Dec.{ltb, eqb}
 use borrow.Author.Tests.{eqb-true, eqb-false, lt-leb, le-leb}
 use Rattle.part.specs.Numbers.{if_then_else_}
 use Rattle.part.specs.Checks.{Checked, fault, require, _>>_}
+use Rattle.part.specs.Ranges.{_to_, _∈_}
 use Rattle.part.specs.declared.shapes.Descriptor.{Descriptor}
 use Rattle.part.specs.declared.shapes.Answer.{Answer}
 use Rattle.part.proofs.Checks.{second-of}
@@ -45,19 +46,20 @@ passed-past widths h (Close slot key) x passed = rw (there widths h (Close slot 
 
 -- ---- its checks, at any later entry
 
-abbrev check : Request → Entry → Checked Unit
-check (Open slot key d) e = mayOpen key d e
-check (Submit slot key number part) e = maySubmit key number e
-check (Close slot key) e = mayClose key e
+abbrev check : Request → ℕ → Entry → Checked Unit
+check (Open slot key d) stored e = mayOpen key d stored e
+check (Submit slot key number part) stored e = maySubmit key number e
+check (Close slot key) stored e = mayClose key stored e
 
-damaged-again : (r : Request) (f : Entry) → damaged f ≡ true → check r f ≡ fault 12 0
+damaged-again : (r : Request) (stored : ℕ) (f : Entry) → damaged f ≡ true → check r stored f ≡ fault 12 0
 unfolding mayOpen maySubmit mayClose
-damaged-again (Open slot key d) f bad = rw bad
-damaged-again (Submit slot key number part) f bad = rw bad
-damaged-again (Close slot key) f bad = rw bad
+damaged-again (Open slot key d) stored f bad = rw bad
+damaged-again (Submit slot key number part) stored f bad = rw bad
+damaged-again (Close slot key) stored f bad = rw bad
 
-module _ (e f : Entry) (later : Later e f) (whole : damaged f ≡ false) where
-  open-again : (key : ℕ) (d : Descriptor) → e .key ≡ key → mayOpen key d f ≡ fault (if isOpenUnder f key then 1 else if isOpen f then 13 else 14) 0
+-- each is refused before the stored number is looked at
+module _ (stored : ℕ) (e f : Entry) (later : Later e f) (whole : damaged f ≡ false) where
+  open-again : (key : ℕ) (d : Descriptor) → e .key ≡ key → mayOpen key d stored f ≡ fault (if isOpenUnder f key then 1 else if isOpen f then 13 else 14) 0
   unfolding mayOpen
   open-again key d was = let rises = later .rises in rw (whole, le-leb key (f .key) (omega arith)) (cases (isOpenUnder f key) (isOpen f))
     where
@@ -77,7 +79,7 @@ module _ (e f : Entry) (later : Later e f) (whole : damaged f ≡ false) where
           rw (le-leb 1 number least, le-leb number 65535 most, lt-leb (f .next) number (omega arith))
       cases false under = refl
 
-  close-again : (key : ℕ) → e .key ≡ key → isOpen e ≡ false → mayClose key f ≡ fault (if eqb (f .key) key && ltb 0 key then 1 else 16) 0
+  close-again : (key : ℕ) → e .key ≡ key → isOpen e ≡ false → mayClose key stored f ≡ fault (if eqb (f .key) key && ltb 0 key then 1 else 16) 0
   unfolding mayClose
   close-again key was shut = rw whole (cases (isOpen f) (eqb (f .key) key) (ltb 0 key) closed-still)
     where
@@ -88,17 +90,18 @@ module _ (e f : Entry) (later : Later e f) (whole : damaged f ≡ false) where
           let z : _≡_ {A = ℕ} 0 1 = cc in
           omega arith
 
-      cases : (is same above : Bool) → (is ≡ true → same ≡ true → ⊥) → (require (not (not is && same && above)) 1 >> require (is && same) 16) ≡ fault (if same && above then 1 else 16) 0
+      cases : (is same above : Bool) → (is ≡ true → same ≡ true → ⊥)
+          → (require (not (not is && same && above)) 1 >> (require (is && same) 16 >> require (stored ∈ 1 to 16) 32)) ≡ fault (if same && above then 1 else 16) 0
       cases true true above never = absurd (never refl refl)
       cases true false above never = refl
       cases false true true never = refl
       cases false true false never = refl
       cases false false above never = refl
 
-past-check : (r : Request) (e f : Entry) → Past r e → Later e f → damaged f ≡ false → check r f ≡ fault (resent r f) 0
-past-check (Open slot key d) e f past later whole = open-again e f later whole key d past
-past-check (Submit slot key number part) e f past later whole = submit-again e f later whole key number (past .0) (past .1) (past .2) (past .3)
-past-check (Close slot key) e f past later whole = close-again e f later whole key (past .0) (past .1)
+past-check : (r : Request) (stored : ℕ) (e f : Entry) → Past r e → Later e f → damaged f ≡ false → check r stored f ≡ fault (resent r f) 0
+past-check (Open slot key d) stored e f past later whole = open-again stored e f later whole key d past
+past-check (Submit slot key number part) stored e f past later whole = submit-again stored e f later whole key number (past .0) (past .1) (past .2) (past .3)
+past-check (Close slot key) stored e f past later whole = close-again stored e f later whole key (past .0) (past .1)
 
 above : (t : Bool) (a b : ℕ) → 0 < a → 0 < b → 0 < (if t then a else b)
 above true a b h k = h
@@ -118,7 +121,7 @@ steps-join widths h (r ∷ before) later = steps-join widths (step widths h r .a
 
 module _ (widths : List ℕ) where
   -- a check's fault is the answer
-  fault-answered : (h : Hub) (r : Request) (f : Entry) {code : ℕ} → check r f ≡ fault code 0 → onEntry widths h r f .answer ≡ refusal code
+  fault-answered : (h : Hub) (r : Request) (f : Entry) {code : ℕ} → check r (h .stored) f ≡ fault code 0 → onEntry widths h r f .answer ≡ refusal code
   unfolding opening closing submitting
   fault-answered h (Open slot key d) f is = rw is
   fault-answered h (Submit slot key number part) f is = rw is
@@ -135,15 +138,15 @@ module _ (widths : List ℕ) where
       f : Entry
       f = entryOf now (slotOf r)
 
-      says : {code : ℕ} → check r f ≡ fault code 0 → step widths now r .answer ≡ refusal code
+      says : {code : ℕ} → check r (now .stored) f ≡ fault code 0 → step widths now r .answer ≡ refusal code
       says is = here widths now r lent low .answers ∙ fault-answered now r f is
 
-      stays : {code : ℕ} → check r f ≡ fault code 0 → 0 < code → step widths now r .after ≡ now
+      stays : {code : ℕ} → check r (now .stored) f ≡ fault code 0 → 0 < code → step widths now r .after ≡ now
       stays {code} is other = refused-stays widths now r (λ zero. let z : code ≡ 0 = sym (ap (λ (a : Answer). a .code) (says is)) ∙ zero in omega arith)
 
       go : (t : Bool) → damaged f ≡ t → SentAgain now r
-      go true bad = record { unchanged = stays (damaged-again r f bad) (omega arith); answered = λ whole. absurd (let z : _≡_ {A = ℕ} 0 1 = cc in omega arith) }
-      go false whole = let is = past-check r e f past later whole in record { unchanged = stays is (never-done r f); answered = λ _. says is }
+      go true bad = record { unchanged = stays (damaged-again r (now .stored) f bad) (omega arith); answered = λ whole. absurd (let z : _≡_ {A = ℕ} 0 1 = cc in omega arith) }
+      go false whole = let is = past-check r (now .stored) e f past later whole in record { unchanged = stays is (never-done r f); answered = λ _. says is }
 
   pub again : (h : Hub) (r : Request) (later : List Request) → step widths h r .answer .code ≡ 0 → SentAgain (steps widths (step widths h r .after) later) r
   again h r later nought = go (decision widths h r)

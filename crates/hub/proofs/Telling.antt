@@ -1,4 +1,5 @@
--- Every answer is what the slot's account tells: the account agrees with the entry, so each test of the one is a test of the other.
+-- Every answer is what the slot's account tells: the account agrees with the entry, so each test of the one is a test of the other; and the stored
+-- number is the count, which stops nothing.
 -- Assumes nothing.
 use Prim.Native.Nat.{ℕ, zero, suc, _+_, _-_, _≤_, _<_}
 use mathlib.Core.Path.{_≡_, refl, sym, _∙_, ap}
@@ -25,14 +26,15 @@ use Rattle.hub.specs.Entries.{isOpen, isOpenUnder, damaged}
 use Rattle.hub.specs.Requests.{mayOpen, judged, maySubmit, mayClose, out, decided, partTaken, opening, closing, submitting, areaOf, refusal, Hub, Request, Open, Submit, Close, slotOf, isLent, onEntry, step, steps}
 use Rattle.hub.specs.Accounts.{Job, Account, unused, running, ended, lastKey, isRunning, byTheRules, isOneOf, toOpen, toClose, goesOn, behind, toPart, toSubmit, tells, isWellLent, told, asAnswer}
 use Rattle.hub.specs.Histories.{entryOf, account}
-use Rattle.hub.specs.Promises.{counting, Fresh, Kept, Agrees, Tells}
+use Rattle.hub.specs.Promises.{counting, Fresh, IsCount, Kept, Agrees, Tells}
 use Rattle.hub.specs.declared.jobs.Entry.{Entry}
 use Rattle.hub.specs.declared.jobs.Out.{Out}
 use Rattle.hub.proofs.Slots.{own-length}
-use Rattle.hub.proofs.Reaching.{steps-lent}
+use Rattle.hub.proofs.Reaching.{outThen, steps-lent}
 use Rattle.hub.proofs.Deciding.{here, whole, lent-widths}
 use Rattle.hub.proofs.Ranging.{in-range}
 use Rattle.hub.proofs.Holding.{holds}
+use Rattle.hub.proofs.Storing.{out-calm, steps-count, start-count}
 
 -- a check decides the answer
 decided-says : (e f : Entry) (a : Answer) (m : Checked Unit) → decided e m (out f a) .answer ≡ asAnswer (m >> fine a)
@@ -113,14 +115,14 @@ module _ (widths : List ℕ) where
   open-is (ended j) e area k = ap isOpen (k .itsEntry)
 
   module _ (a : Account) (e : Entry) (area : List ℕ) (agrees : Agrees widths a e area) (undamaged : damaged e ≡ false) where
-    open-told : (key : ℕ) (d : Descriptor) → opening key d e .answer ≡ asAnswer (toOpen a key d)
+    open-told : (key : ℕ) (d : Descriptor) → opening key d 1 e .answer ≡ asAnswer (toOpen a key d)
     unfolding opening mayOpen toOpen
     open-told key d =
-        decided-says e _ (answer 0 0 0) (mayOpen key d e)
+        decided-says e _ (answer 0 0 0) (mayOpen key d 1 e)
         ∙ rw (undamaged, open-is a e area agrees, key-is a e area agrees, above (lastKey a) key) (cases (isRunning a && eqb (lastKey a) key) (isRunning a) (ltb (lastKey a) key) (hold (descriptorFields d)))
       where
         cases : (under is new ranges : Bool)
-            → asAnswer ((require (not under) 1 >> (require (not is) 13 >> (require new 14 >> require ranges 15))) >> fine (answer 0 0 0))
+            → asAnswer ((require (not under) 1 >> (require (not is) 13 >> (require new 14 >> (require ranges 15 >> require true 32)))) >> fine (answer 0 0 0))
             ≡ asAnswer (require (not under) 1 >> (require (not is) 13 >> (require new 14 >> (require ranges 15 >> fine (answer 0 0 0)))))
         cases true is new ranges = refl
         cases false true new ranges = refl
@@ -128,14 +130,14 @@ module _ (widths : List ℕ) where
         cases false false true false = refl
         cases false false true true = refl
 
-    close-told : (key : ℕ) → closing key e .answer ≡ asAnswer (toClose a key)
+    close-told : (key : ℕ) → closing key 1 e .answer ≡ asAnswer (toClose a key)
     unfolding closing mayClose toClose
     close-told key =
-        decided-says e _ (answer 0 0 0) (mayClose key e)
+        decided-says e _ (answer 0 0 0) (mayClose key 1 e)
         ∙ rw (undamaged, open-is a e area agrees, key-is a e area agrees) (cases (isRunning a) (eqb (lastKey a) key) (ltb 0 key))
       where
         cases : (is same more : Bool)
-            → asAnswer ((require (not (not is && same && more)) 1 >> require (is && same) 16) >> fine (answer 0 0 0))
+            → asAnswer ((require (not (not is && same && more)) 1 >> (require (is && same) 16 >> require true 32)) >> fine (answer 0 0 0))
             ≡ asAnswer (if is && same then fine (answer 0 0 0) else if same && more then refuse 1 else refuse 16)
         cases true true more = refl
         cases true false more = refl
@@ -213,15 +215,20 @@ module _ (widths : List ℕ) where
 
   -- ---- any request, at any time
 
-  module _ (now : Hub) (a : Account) where
+  module _ (now : Hub) (count : IsCount now) (a : Account) where
+    -- the number that is the count may as well be a 1
+    calm : (r : Request) → isLent widths now r ≡ true → slotOf r < 16
+        → outThen widths r (entryOf now (slotOf r)) (areaOf (now .records) (slotOf r)) (now .stored) .answer ≡ outThen widths r (entryOf now (slotOf r)) (areaOf (now .records) (slotOf r)) 1 .answer
+    calm r lent low = ap (λ (o : Out). o .answer) (out-calm widths now count r lent low (areaOf (now .records) (slotOf r)))
+
     its-told : (r : Request) → isLent widths now r ≡ true → slotOf r < 16 → Agrees widths a (entryOf now (slotOf r)) (areaOf (now .records) (slotOf r)) → damaged (entryOf now (slotOf r)) ≡ false
         → onEntry widths now r (entryOf now (slotOf r)) .answer ≡ asAnswer (tells widths a r)
-    its-told (Open slot key d) lent low agrees undamaged = open-told a (entryOf now slot) (areaOf (now .records) slot) agrees undamaged key d
+    its-told (Open slot key d) lent low agrees undamaged = calm (Open slot key d) lent low ∙ open-told a (entryOf now slot) (areaOf (now .records) slot) agrees undamaged key d
     its-told (Submit slot key number part) lent low agrees undamaged =
         let x = here widths now (Submit slot key number part) lent low in
         let long = own-length (now .records) slot (whole widths now slot key number part x) low in
         submit-told (entryOf now slot) (areaOf (now .records) slot) undamaged key number part a agrees long (lent-widths widths now slot key number part x)
-    its-told (Close slot key) lent low agrees undamaged = close-told a (entryOf now slot) (areaOf (now .records) slot) agrees undamaged key
+    its-told (Close slot key) lent low agrees undamaged = calm (Close slot key) lent low ∙ close-told a (entryOf now slot) (areaOf (now .records) slot) agrees undamaged key
 
 -- 10 and 11 before it
 lent-told : (t u : Bool) (a : Answer) (m : Checked Answer) → (t ≡ true → u ≡ true → a ≡ asAnswer m) → (if t then (if u then a else refusal 11) else refusal 10) ≡ asAnswer (require t 10 >> (require u 11 >> m))
@@ -237,10 +244,11 @@ well-lent widths h f (Close slot key) = rw (f .sixteen)
 
 pub as-told : Tells
 unfolding step told
-as-told widths h f before r =
+as-told widths h f nought before r =
     let now = steps widths h before in
     let a = account widths (slotOf r) h unused before in
     let k = holds widths h f before (slotOf r) in
+    let count = steps-count widths h (start-count h f nought) before in
     let lent = steps-lent widths h before r ∙ well-lent widths h f r in
     rw lent (lent-told (isWellLent widths h r) (ltb (slotOf r) 16) (onEntry widths now r (entryOf now (slotOf r)) .answer) (tells widths a r)
-    (λ yes low. its-told widths now a r (lent ∙ yes) (ltb-true (slotOf r) 16 low) (k .0) (k .1)))
+    (λ yes low. its-told widths now count a r (lent ∙ yes) (ltb-true (slotOf r) 16 low) (k .0) (k .1)))

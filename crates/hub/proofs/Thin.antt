@@ -50,7 +50,7 @@ use Rattle.hub.specs.declared.jobs.Entry.{Entry}
 use Rattle.part.specs.declared.shapes.Answer.{Answer}
 use Rattle.hub.specs.declared.jobs.Out.{Out}
 use Rattle.hub.specs.Entries.{fresh}
-use Rattle.hub.specs.Requests.{refusal, atSlot, Hub, hub, Request, slotOf, Reply, isLent, onEntry, onRecords, step}
+use Rattle.hub.specs.Requests.{refusal, atSlot, Hub, hub, Request, slotOf, Reply, isLent, onEntry, onRecords, onStored, step}
 use Rattle.hub.proofs.Cases.{hit, miss}
 use Rattle.hub.proofs.Steps.{guards, at, result, number, constant}
 use Rattle.hub.proofs.jobs.Entry as E
@@ -94,7 +94,7 @@ module _ (ok : Bool) (i : ℕ) (ys : List Entry) where
 
 -- an answer and what is left are a step's
 abbrev pub IsReply : Reply → Answer → Hub → Type 0
-IsReply s a h = (a ≡ s .answer) × (h .table ≡ s .after .table) × (h .records ≡ s .after .records)
+IsReply s a h = (a ≡ s .answer) × (h .table ≡ s .after .table) × (h .records ≡ s .after .records) × (h .stored ≡ s .after .stored)
 
 module _ (widths : List ℕ) (h : Hub) (r : Request) where
   abbrev lent : Bool
@@ -118,15 +118,19 @@ module _ (widths : List ℕ) (h : Hub) (r : Request) where
     away lent slot table (λ e. on e .answer) way,
     stays lent slot table (λ e. put (on e)) table way,
     stays lent slot table (onRecords widths h r) (h .records) way,
+    stays lent slot table (onStored widths h r) (h .stored) way,
   )
 
-  -- where the callee answers d, and leaves these record bytes
-  pub taken-step : Both lent slot → (d : Out) (bytes : List ℕ) → d ≡ on (getD table slot fresh) → bytes ≡ onRecords widths h r (getD table slot fresh) → IsReply (step widths h r) (d .answer) (hub (put d) bytes)
+  -- where the callee answers d, and leaves these record bytes and this number
+  pub taken-step : Both lent slot → (d : Out) (bytes : List ℕ) (number : ℕ)
+      → d ≡ on (getD table slot fresh) → bytes ≡ onRecords widths h r (getD table slot fresh) → number ≡ onStored widths h r (getD table slot fresh)
+      → IsReply (step widths h r) (d .answer) (hub (put d) bytes number)
   unfolding step
-  taken-step b d bytes made stored = (
+  taken-step b d bytes number made stored counted = (
     ap (λ (o : Out). o .answer) made ∙ reached lent slot table (λ e. on e .answer) (refusal 11) (refusal 10) b,
     ap put made ∙ reached lent slot table (λ e. put (on e)) table table b,
     stored ∙ reached lent slot table (onRecords widths h r) (h .records) (h .records) b,
+    counted ∙ reached lent slot table (onStored widths h r) (h .stored) (h .stored) b,
   )
 
 -- ---- an answer's machine value, and that a refusal is one

@@ -130,7 +130,7 @@ module _ (widths : List ℕ) where
   tells a (Submit slot key number part) = toSubmit a key number part
   tells a (Close slot key) = toClose a key
 
-  -- open and close are lent the table only; a submit also the record buffer of 65,536 bytes and the 1,024 widths
+  -- open and close are lent nothing else that has a length; a submit the record buffer of 65,536 bytes and the 1,024 widths
   abbrev pub isWellLent : Hub → Request → Bool
   isWellLent h (Open slot key d) = true
   isWellLent h (Submit slot key number part) = eqb (length (h .records)) 65536 && eqb (length widths) 1024

@@ -1,5 +1,5 @@
 -- "What the promises have to say": the promises over the rules of `Requests`, each as one type.
--- Their proofs: Answering, Leaving, Telling, Holding, Printing, Repeating, Swapping.
+-- Their proofs: Answering, Leaving, Storing, Swapping, Telling, Holding, Printing, Repeating.
 use Prim.Native.Nat.{ℕ, zero, suc, _+_, _*_, _≤_, _<_}
 use mathlib.Core.Path.{_≡_}
 use mathlib.Core.Bool.{Bool, true, false, _&&_, _||_}
@@ -16,7 +16,7 @@ use Rattle.part.specs.Drawing.{allOnSheet}
 use Rattle.part.specs.declared.shapes.Descriptor.{Descriptor}
 use Rattle.part.specs.declared.shapes.Answer.{Answer}
 use Rattle.hub.specs.Entries.{entry, isOpen, isOpenUnder, damaged}
-use Rattle.hub.specs.Requests.{areaOf, refusal, Hub, Request, Open, Submit, Close, slotOf, step, steps}
+use Rattle.hub.specs.Requests.{areaOf, refusal, Hub, Request, Open, Submit, Close, slotOf, step, steps, countOpen}
 use Rattle.hub.specs.Accounts.{Job, Account, unused, running, ended, byTheRules, told, asAnswer}
 use Rattle.hub.specs.Histories.{entryOf, account}
 use Rattle.hub.specs.declared.jobs.Entry.{Entry}
@@ -26,9 +26,9 @@ use Rattle.hub.specs.declared.jobs.Entry.{Entry}
 -- at without a test (which byte: `Pointing` of the part's rule book).
 
 abbrev pub codesOf : Request → Range
-codesOf (Open slot key d) = upTo 1 or 10 to 15
+codesOf (Open slot key d) = upTo 1 or 10 to 15 or only 32
 codesOf (Submit slot key number part) = upTo 1 or 10 to 12 or 16 to 29
-codesOf (Close slot key) = upTo 1 or 10 to 12 or only 16
+codesOf (Close slot key) = upTo 1 or 10 to 12 or only 16 or only 32
 
 abbrev pub isSubmit : Request → Bool
 isSubmit (Open slot key d) = false
@@ -64,10 +64,17 @@ Stays (Open slot key d) e f = Unit
 Stays (Submit slot key number part) e f = (f .key ≡ e .key) × (f .mark ≡ e .mark) × (f .descriptor ≡ e .descriptor)
 Stays (Close slot key) e f = (f .key ≡ e .key) × (f .descriptor ≡ e .descriptor) × (f .state ≡ e .state) × (f .next ≡ e .next)
 
+-- what becomes of the stored number of open jobs: an open makes it one more, a close one less, and a submit leaves it
+abbrev pub Counted : Request → ℕ → ℕ → Type 0
+Counted (Open slot key d) stored now = now ≡ stored + 1
+Counted (Submit slot key number part) stored now = now ≡ stored
+Counted (Close slot key) stored now = now + 1 ≡ stored
+
 pub record OnlyItsOwn (r : Request) (h now : Hub) : Type 0 where
   pub entries : (slot : ℕ) → (slot ≡ slotOf r → ⊥) → entryOf now slot ≡ entryOf h slot
   pub itsEntry : Stays r (entryOf h (slotOf r)) (entryOf now (slotOf r))
   pub bytes : (at : ℕ) → (Writes r (entryOf h (slotOf r)) (entryOf now (slotOf r)) at → ⊥) → getD (now .records) at 0 ≡ getD (h .records) at 0
+  pub number : Counted r (h .stored) (now .stored)
   pub tableSize : length (now .table) ≡ length (h .table)
   pub recordsSize : length (now .records) ≡ length (h .records)
 
@@ -75,32 +82,46 @@ pub record Untouched : Type 0 where
   pub refused : (widths : List ℕ) (h : Hub) (r : Request) → (step widths h r .answer .code ≡ 0 → ⊥) → step widths h r .after ≡ h
   pub accepted : (widths : List ℕ) (h : Hub) (r : Request) → step widths h r .answer .code ≡ 0 → OnlyItsOwn r h (step widths h r .after)
 
+-- ---- A fresh table: all are closed, with last key 0. A fresh start has 0 beside it.
+
+pub record Fresh (h : Hub) : Type 0 where
+  pub sixteen : length (h .table) ≡ 16
+  pub allClosed : (slot : ℕ) → isOpen (entryOf h slot) ≡ false
+  pub noKeys : (slot : ℕ) → entryOf h slot .key ≡ 0
+
+-- ---- STORED: the stored number of open jobs is the walked count, so that nobody needs to walk. Where it is, whatever the table (of any length, with
+-- damaged entries too), no request is answered 32, and it is so after any request; so it is ever after a fresh start.
+
+abbrev pub IsCount : Hub → Type 0
+IsCount h = h .stored ≡ countOpen (h .table)
+
+pub record Stored : Type 0 where
+  pub never32 : (widths : List ℕ) (h : Hub) (r : Request) → IsCount h → step widths h r .answer .code ≡ 32 → ⊥
+  pub stays : (widths : List ℕ) (h : Hub) (r : Request) → IsCount h → IsCount (step widths h r .after)
+  pub ever : (widths : List ℕ) (h : Hub) → Fresh h → h .stored ≡ 0 → (rs : List Request) → IsCount (steps widths h rs)
+
 -- ---- SWAP (demand 3): two requests that name different slots, each with its own width table, from any table (of any length, with damaged
--- entries too) and any record buffer. In either order both get the same answers, and leave the same table and the same record bytes.
+-- entries too) beside which the stored number is the walked count, and any record buffer. In either order both get the same answers, and leave the
+-- same table, the same record bytes and the same stored number.
 
 pub record EitherOrder (v w : List ℕ) (h : Hub) (p q : Request) : Type 0 where
   pub firstAnswer : step v (step w h q .after) p .answer ≡ step v h p .answer
   pub secondAnswer : step w (step v h p .after) q .answer ≡ step w h q .answer
   pub sameTable : step w (step v h p .after) q .after .table ≡ step v (step w h q .after) p .after .table
   pub sameRecords : step w (step v h p .after) q .after .records ≡ step v (step w h q .after) p .after .records
+  pub sameStored : step w (step v h p .after) q .after .stored ≡ step v (step w h q .after) p .after .stored
 
 abbrev pub Swap : Type 0
-Swap = (v w : List ℕ) (h : Hub) (p q : Request) → (slotOf p ≡ slotOf q → ⊥) → EitherOrder v w h p q
+Swap = (v w : List ℕ) (h : Hub) (p q : Request) → IsCount h → (slotOf p ≡ slotOf q → ⊥) → EitherOrder v w h p q
 
--- ---- In the promises from here on a history begins with a fresh table, one width table and a record buffer of any content, and goes on with
--- any requests, accepted or not. (Where the width table or the buffer has another length, no part is ever accepted.)
+-- ---- In the promises from here on a history begins with a fresh table, one width table, a record buffer of any content and, where nothing is said of
+-- it, any stored number; and goes on with any requests, accepted or not. (Where the width table or the buffer has another length, no part is ever accepted.)
 
--- In a fresh table all are closed, with last key 0.
-pub record Fresh (h : Hub) : Type 0 where
-  pub sixteen : length (h .table) ≡ 16
-  pub allClosed : (slot : ℕ) → isOpen (entryOf h slot) ≡ false
-  pub noKeys : (slot : ℕ) → entryOf h slot .key ≡ 0
-
--- ---- TELLS (demands 1 to 3): every answer is what the slot's account tells, and nobody needs to look at the entry. It says what 1 means, and that
--- nothing legal is refused.
+-- ---- TELLS (demands 1 to 3): after a fresh start every answer is what the slot's account tells, and nobody needs to look at the entry. It says what 1
+-- means, and that nothing legal is refused.
 
 abbrev pub Tells : Type 0
-Tells = (widths : List ℕ) (h : Hub) → Fresh h → (before : List Request) (r : Request) →
+Tells = (widths : List ℕ) (h : Hub) → Fresh h → h .stored ≡ 0 → (before : List Request) (r : Request) →
     step widths (steps widths h before) r .answer ≡ asAnswer (told widths h (account widths (slotOf r) h unused before) r)
 
 -- ---- HOLDS (demand 3): each job's entry and records are what the rules give for its descriptor and its accepted parts, each once, in number

@@ -1,12 +1,12 @@
 -- "Requests and their order": open, submit and close on one entry, each as one step on all that is lent; and the count of open jobs.
-use Prim.Native.Nat.{ℕ, _+_, _*_}
+use Prim.Native.Nat.{ℕ, _+_, _-_, _*_}
 use mathlib.Core.Bool.{Bool, true, false, not, _&&_}
 use mathlib.Core.List.{List, [], _∷_}
 use lib.ListN.{length, getD, set}
 use lib.Dec.{ltb, leb, eqb}
 use Rattle.part.specs.Numbers.{if_then_else_}
 use Rattle.part.specs.Checks.{Checked, fine, fault, require, _>>_}
-use Rattle.part.specs.Ranges.{_to_, _∈_, hold, descriptorFields}
+use Rattle.part.specs.Ranges.{upTo, _to_, _∈_, hold, descriptorFields}
 use Rattle.part.specs.Reading.{between}
 use Rattle.part.specs.Records.{spliced}
 use Rattle.part.specs.Part.{answer, interpreted, areaAfter}
@@ -19,14 +19,15 @@ use Rattle.hub.specs.declared.jobs.Out.{Out}
 
 -- ---- the checks on one entry, in their order; a damaged entry is 12 before all else
 
--- open under this key: 1; open under another: 13; an old key: 14; descriptor out of range: 15
-unfoldable pub mayOpen : ℕ → Descriptor → Entry → Checked Unit
-mayOpen key d e = do
+-- open under this key: 1; open under another: 13; an old key: 14; descriptor out of range: 15; last, a stored number that can't grow: 32
+unfoldable pub mayOpen : ℕ → Descriptor → ℕ → Entry → Checked Unit
+mayOpen key d stored e = do
   require (not (damaged e)) 12
   require (not (isOpenUnder e key)) 1
   require (not (isOpen e)) 13
   require (not (isOldKey e key)) 14
   require (hold (descriptorFields d)) 15
+  require (stored ∈ upTo 15) 32
 
 -- A part's number: bad (0 or above 65,535), 17; old (below next), 1; a gap (above next), 18; else it is the one to take now.
 unfoldable pub judged : ℕ → ℕ → Checked Unit
@@ -42,12 +43,13 @@ maySubmit key number e = do
   require (isOpenUnder e key) 16
   judged (e .next) number
 
--- closed with this as last key, key above 0: 1; else, where it isn't open under this key: 16
-unfoldable pub mayClose : ℕ → Entry → Checked Unit
-mayClose key e = do
+-- closed with this as last key, key above 0: 1; else, where it isn't open under this key: 16; last, a stored number above 16 or that can't fall: 32
+unfoldable pub mayClose : ℕ → ℕ → Entry → Checked Unit
+mayClose key stored e = do
   require (not (damaged e)) 12
   require (not (not (isOpen e) && eqb (e .key) key && ltb 0 key)) 1
   require (isOpenUnder e key) 16
+  require (stored ∈ 1 to 16) 32
 
 -- ---- the requests on one entry: the entry afterwards, and the answer
 
@@ -63,11 +65,18 @@ abbrev pub passes : Checked Unit → Bool
 passes (fine _) = true
 passes (fault code at) = false
 
-unfoldable pub opening : ℕ → Descriptor → Entry → Out
-opening key d e = decided e (mayOpen key d e) (out (opened key d) (answer 0 0 0))
+unfoldable pub opening : ℕ → Descriptor → ℕ → Entry → Out
+opening key d stored e = decided e (mayOpen key d stored e) (out (opened key d) (answer 0 0 0))
 
-unfoldable pub closing : ℕ → Entry → Out
-closing key e = decided e (mayClose key e) (out (closed e) (answer 0 0 0))
+unfoldable pub closing : ℕ → ℕ → Entry → Out
+closing key stored e = decided e (mayClose key stored e) (out (closed e) (answer 0 0 0))
+
+-- and what they make of the stored number of open jobs: one more, one less
+unfoldable pub oneMore : ℕ → Descriptor → ℕ → Entry → ℕ
+oneMore key d stored e = if passes (mayOpen key d stored e) then stored + 1 else stored
+
+unfoldable pub oneLess : ℕ → ℕ → Entry → ℕ
+oneLess key stored e = if passes (mayClose key stored e) then stored - 1 else stored
 
 -- the part's own answer; if all its elements pass, next grows by one
 abbrev pub partTaken : Entry → Interpreted → Out
@@ -123,12 +132,14 @@ elseOf lent f other table slot = atSlot lent f other other table slot
 
 -- ---- one step on all that is lent
 
+-- the table, the record buffer, and the stored number of open jobs
 pub record Hub : Type 0 where
   pub table : List Entry
   pub records : List ℕ
+  pub stored : ℕ
 
-abbrev pub hub : List Entry → List ℕ → Hub
-hub table records = record { table = table; records = records }
+abbrev pub hub : List Entry → List ℕ → ℕ → Hub
+hub table records stored = record { table = table; records = records; stored = stored }
 
 pub data Request : Type 0 where
   Open : (slot key : ℕ) (d : Descriptor) → Request
@@ -146,26 +157,34 @@ pub record Reply : Type 0 where
   pub after : Hub
 
 module _ (widths : List ℕ) where
-  -- Open and close are lent the table only.
+  -- Open and close are lent the table and the stored number, a submit the table, the record buffer and the widths.
   abbrev pub isLent : Hub → Request → Bool
   isLent h (Open slot key d) = isTable (h .table)
   isLent h (Submit slot key number part) = isStore (h .table) (h .records) widths
   isLent h (Close slot key) = isTable (h .table)
 
   abbrev pub onEntry : Hub → Request → Entry → Out
-  onEntry h (Open slot key d) = opening key d
+  onEntry h (Open slot key d) = opening key d (h .stored)
   onEntry h (Submit slot key number part) = submitting widths key number part (areaOf (h .records) slot)
-  onEntry h (Close slot key) = closing key
+  onEntry h (Close slot key) = closing key (h .stored)
 
   abbrev pub onRecords : Hub → Request → Entry → List ℕ
   onRecords h (Open slot key d) e = h .records
   onRecords h (Submit slot key number part) e = storing widths (h .records) slot key number part e
   onRecords h (Close slot key) e = h .records
 
+  abbrev pub onStored : Hub → Request → Entry → ℕ
+  onStored h (Open slot key d) e = oneMore key d (h .stored) e
+  onStored h (Submit slot key number part) e = h .stored
+  onStored h (Close slot key) e = oneLess key (h .stored) e
+
   unfoldable pub step : Hub → Request → Reply
   step h r = record {
     answer = answerOf (isLent h r) (onEntry h r) (h .table) (slotOf r);
-    after = hub (tableOf (isLent h r) (onEntry h r) (h .table) (slotOf r)) (elseOf (isLent h r) (onRecords h r) (h .records) (h .table) (slotOf r));
+    after =
+        hub (tableOf (isLent h r) (onEntry h r) (h .table) (slotOf r))
+        (elseOf (isLent h r) (onRecords h r) (h .records) (h .table) (slotOf r))
+        (elseOf (isLent h r) (onStored h r) (h .stored) (h .table) (slotOf r));
   }
 
   -- what is left after some requests, one after the other

@@ -16,7 +16,7 @@ use Rattle.part.specs.declared.shapes.Descriptor.{Descriptor}
 use Rattle.part.specs.declared.shapes.State.{State}
 use Rattle.part.specs.declared.shapes.Answer.{Answer}
 use Rattle.hub.specs.Entries.{entryFields, fresh, freshTable}
-use Rattle.hub.specs.Requests.{mayOpen, judged, maySubmit, mayClose, opening, closing, submitting, areaTaken, Hub, hub, Request, Open, Submit, Close, step, steps, countOpen}
+use Rattle.hub.specs.Requests.{mayOpen, judged, maySubmit, mayClose, opening, closing, oneMore, oneLess, submitting, areaTaken, Hub, hub, Request, Open, Submit, Close, step, steps, countOpen}
 use Rattle.hub.specs.declared.jobs.Entry.{Entry}
 
 -- how many widths and what else is lent; requests before, and one; its answer, what is left, and the jobs that are open then
@@ -50,39 +50,43 @@ tableWith slot e = replicate slot elsewhere ++ e ∷ replicate (15 - slot) elsew
 abbrev pub buffer : List ℕ → List ℕ
 buffer bytes = blank 8192 ++ replicate 160 0xDD ++ bytes ++ replicate (3936 - length bytes) 0xDD ++ blank 53248
 
--- an open or a close on one slot's entry, beside a few record bytes: the entry afterwards, and the open jobs
-abbrev pub asks : ℕ → Entry → Request → ℕ → Entry → ℕ → Asking
-asks slot e r code after jobs = asking record {
+-- an open or a close on one slot's entry, beside a few record bytes and a stored number: the entry afterwards, the stored number, and the open jobs
+abbrev pub misled : ℕ → Entry → ℕ → Request → ℕ → Entry → ℕ → ℕ → Asking
+misled slot e stored r code after left jobs = asking record {
   widths = 1024;
-  lent = hub (tableWith slot e) (blank 8);
+  lent = hub (tableWith slot e) (blank 8) stored;
   earlier = [];
   request = r;
   answer = gives code 0 0;
-  left = hub (tableWith slot after) (blank 8);
+  left = hub (tableWith slot after) (blank 8) left;
   jobs = jobs;
 }
 
--- a submit to slot 2: its answer, the entry afterwards and the records added
+-- the same where the stored number is right: afterwards it is the open jobs
+abbrev pub asks : ℕ → Entry → ℕ → Request → ℕ → Entry → ℕ → Asking
+asks slot e stored r code after jobs = misled slot e stored r code after jobs jobs
+
+-- a submit to slot 2: its answer, the entry afterwards and the records added; it is not lent the stored number
 abbrev pub submits : Entry → Request → Answer → Entry → List ℕ → ℕ → Asking
 submits e r a after records jobs = asking record {
   widths = 1024;
-  lent = hub (tableWith 2 e) (buffer []);
+  lent = hub (tableWith 2 e) (buffer []) 77;
   earlier = [];
   request = r;
   answer = a;
-  left = hub (tableWith 2 after) (buffer records);
+  left = hub (tableWith 2 after) (buffer records) 77;
   jobs = jobs;
 }
 
--- a request that is refused for what is lent, or for its slot
+-- a request that is refused for what is lent, or for its slot, whatever the stored number
 abbrev pub turned : ℕ → List Entry → List ℕ → Request → ℕ → ℕ → Asking
 turned widths table records r code jobs = asking record {
   widths = widths;
-  lent = hub table records;
+  lent = hub table records 99;
   earlier = [];
   request = r;
   answer = gives code 0 0;
-  left = hub table records;
+  left = hub table records 99;
   jobs = jobs;
 }
 
@@ -114,33 +118,51 @@ itsRecord = hex 0x1100_0100_6400_5A00_0100_0000_0600_3200_C1
 unfoldable pub trials : List Asking
 trials =
     -- open: a new key, the greatest key, a table's first and last slot; a closed entry is never damaged
-    asks 3 shut (Open 3 7 job) 0 (begins 7) 1
-    ∷ asks 0 elsewhere (Open 0 4294967295 job) 0 (begins 4294967295) 1
-    ∷ asks 0 (begins 4294967295) (Open 0 4294967295 job) 1 (begins 4294967295) 1
-    ∷ asks 15 elsewhere (Open 15 10 job) 0 (begins 10) 1
+    asks 3 shut 0 (Open 3 7 job) 0 (begins 7) 1
+    ∷ asks 0 elsewhere 0 (Open 0 4294967295 job) 0 (begins 4294967295) 1
+    ∷ asks 0 (begins 4294967295) 1 (Open 0 4294967295 job) 1 (begins 4294967295) 1
+    ∷ asks 15 elsewhere 0 (Open 15 10 job) 0 (begins 10) 1
     -- a key not above the last; open under this key, and under others; a bad descriptor, last of all
-    ∷ asks 3 shut (Open 3 6 job) 14 shut 0
-    ∷ asks 3 shut (Open 3 5 badJob) 14 shut 0
-    ∷ asks 3 shut (Open 3 7 badJob) 15 shut 0
-    ∷ asks 3 (ongoing 4) (Open 3 6 badJob) 1 (ongoing 4) 1
-    ∷ asks 3 (ongoing 4) (Open 3 7 badJob) 13 (ongoing 4) 1
-    ∷ asks 3 (ongoing 4) (Open 3 5 job) 13 (ongoing 4) 1
+    ∷ asks 3 shut 0 (Open 3 6 job) 14 shut 0
+    ∷ asks 3 shut 0 (Open 3 5 badJob) 14 shut 0
+    ∷ asks 3 shut 0 (Open 3 7 badJob) 15 shut 0
+    ∷ asks 3 (ongoing 4) 1 (Open 3 6 badJob) 1 (ongoing 4) 1
+    ∷ asks 3 (ongoing 4) 1 (Open 3 7 badJob) 13 (ongoing 4) 1
+    ∷ asks 3 (ongoing 4) 1 (Open 3 5 job) 13 (ongoing 4) 1
     -- damaged: a state, a descriptor, a mark, next; the ends of next are not; a damaged job is counted
-    ∷ asks 3 broken (Open 3 6 job) 12 broken 1
-    ∷ asks 3 (keeps 6 1 badJob start 4) (Open 3 7 job) 12 (keeps 6 1 badJob start 4) 1
-    ∷ asks 3 (keeps 6 2 job start 4) (Open 3 6 job) 12 (keeps 6 2 job start 4) 1
-    ∷ asks 3 (ongoing 0) (Open 3 6 job) 12 (ongoing 0) 1
-    ∷ asks 3 (ongoing 65537) (Open 3 6 job) 12 (ongoing 65537) 1
-    ∷ asks 3 (ongoing 1) (Open 3 6 job) 1 (ongoing 1) 1
-    ∷ asks 3 (ongoing 65536) (Open 3 6 job) 1 (ongoing 65536) 1
+    ∷ asks 3 broken 1 (Open 3 6 job) 12 broken 1
+    ∷ asks 3 (keeps 6 1 badJob start 4) 1 (Open 3 7 job) 12 (keeps 6 1 badJob start 4) 1
+    ∷ asks 3 (keeps 6 2 job start 4) 1 (Open 3 6 job) 12 (keeps 6 2 job start 4) 1
+    ∷ asks 3 (ongoing 0) 1 (Open 3 6 job) 12 (ongoing 0) 1
+    ∷ asks 3 (ongoing 65537) 1 (Open 3 6 job) 12 (ongoing 65537) 1
+    ∷ asks 3 (ongoing 1) 1 (Open 3 6 job) 1 (ongoing 1) 1
+    ∷ asks 3 (ongoing 65536) 1 (Open 3 6 job) 1 (ongoing 65536) 1
     -- close: only the mark changes; closed already; another key; key 0; damaged
-    ∷ asks 3 (ongoing 4) (Close 3 6) 0 shut 0
-    ∷ asks 3 shut (Close 3 6) 1 shut 0
-    ∷ asks 3 shut (Close 3 5) 16 shut 0
-    ∷ asks 3 (ongoing 4) (Close 3 5) 16 (ongoing 4) 1
-    ∷ asks 3 (keeps 0 1 job start 4) (Close 3 0) 0 (keeps 0 0 job start 4) 0
-    ∷ asks 3 (keeps 0 0 job start 4) (Close 3 0) 16 (keeps 0 0 job start 4) 0
-    ∷ asks 3 broken (Close 3 6) 12 broken 1
+    ∷ asks 3 (ongoing 4) 1 (Close 3 6) 0 shut 0
+    ∷ asks 3 shut 0 (Close 3 6) 1 shut 0
+    ∷ asks 3 shut 0 (Close 3 5) 16 shut 0
+    ∷ asks 3 (ongoing 4) 1 (Close 3 5) 16 (ongoing 4) 1
+    ∷ asks 3 (keeps 0 1 job start 4) 1 (Close 3 0) 0 (keeps 0 0 job start 4) 0
+    ∷ asks 3 (keeps 0 0 job start 4) 0 (Close 3 0) 16 (keeps 0 0 job start 4) 0
+    ∷ asks 3 broken 1 (Close 3 6) 12 broken 1
+    -- a stored number that is not the count: an open grows it up to 16, a close lets it fall from 16 and to 0
+    ∷ misled 3 shut 15 (Open 3 7 job) 0 (begins 7) 16 1
+    ∷ misled 3 shut 16 (Open 3 7 job) 32 shut 16 0
+    ∷ misled 3 shut 17 (Open 3 7 job) 32 shut 17 0
+    ∷ misled 3 shut 4294967295 (Open 3 7 job) 32 shut 4294967295 0
+    ∷ misled 3 (ongoing 4) 16 (Close 3 6) 0 shut 15 0
+    ∷ misled 3 (ongoing 4) 17 (Close 3 6) 32 (ongoing 4) 17 1
+    ∷ misled 3 (ongoing 4) 4294967295 (Close 3 6) 32 (ongoing 4) 4294967295 1
+    ∷ misled 3 (ongoing 4) 0 (Close 3 6) 32 (ongoing 4) 0 1
+    -- and every other answer comes before 32
+    ∷ misled 3 shut 16 (Open 3 7 badJob) 15 shut 16 0
+    ∷ misled 3 shut 17 (Open 3 6 job) 14 shut 17 0
+    ∷ misled 3 (ongoing 4) 16 (Open 3 7 job) 13 (ongoing 4) 16 1
+    ∷ misled 3 (ongoing 4) 17 (Open 3 6 job) 1 (ongoing 4) 17 1
+    ∷ misled 3 broken 16 (Open 3 6 job) 12 broken 16 1
+    ∷ misled 3 shut 0 (Close 3 5) 16 shut 0 0
+    ∷ misled 3 shut 17 (Close 3 6) 1 shut 17 0
+    ∷ misled 3 broken 17 (Close 3 6) 12 broken 17 1
     -- submit: the next number, also the last one; a number resent, a gap, a bad one
     ∷ submits (ongoing 4) (Submit 2 6 4 aPart) (gives 0 1 17) (keeps 6 1 job (halfway (on 555 90) 177) 5) itsRecord 1
     ∷ submits (ongoing 4) (Submit 2 6 3 aPart) (gives 1 0 0) (ongoing 4) [] 1
@@ -155,7 +177,7 @@ trials =
     ∷ lone broken 7 4 aPart broken (gives 12 0 0)
     ∷ lone (ongoing 4) 6 4 (replicate 8193 0x2B) (ongoing 4) (gives 19 0 0)
     ∷ submits (ongoing 4) (Submit 2 6 4 (hex 0xC1_2BD304C68000)) (gives 24 5 0) (ongoing 4) [] 1
-    -- 10 before 11, and 11 before the entry; open and close are lent the table only; another length counts 0
+    -- 10 before 11, and 11 before the entry; open and close are not lent the records; another length counts 0
     ∷ turned 1024 (replicate 15 (ongoing 4)) [] (Open 16 7 job) 10 0
     ∷ turned 1024 (replicate 17 (ongoing 4)) [] (Close 3 6) 10 0
     ∷ turned 1024 (replicate 16 (ongoing 4)) [] (Open 16 7 badJob) 11 16
@@ -168,22 +190,33 @@ trials =
     -- a fresh table: closed, with last key 0
     ∷ asking record {
       widths = 1024;
-      lent = hub freshTable [];
+      lent = hub freshTable [] 0;
       earlier = [];
       request = Close 0 0;
       answer = gives 16 0 0;
-      left = hub (replicate 16 (keeps 0 0 (jobOf 0 0 0 0 0 0 0 0 0 0 0 0) (stands (on 0 0) 0 0 0 0 0 0 65535 0 0 0) 1)) [];
+      left = hub (replicate 16 (keeps 0 0 (jobOf 0 0 0 0 0 0 0 0 0 0 0 0) (stands (on 0 0) 0 0 0 0 0 0 65535 0 0 0) 1)) [] 0;
       jobs = 0;
     }
     -- one request after the other
     ∷ asking record {
       widths = 1024;
-      lent = hub (tableWith 2 (ongoing 4)) [];
+      lent = hub (tableWith 2 (ongoing 4)) [] 1;
       earlier = Close 2 6 ∷ Open 2 7 job ∷ [];
       request = Open 3 10 job;
       answer = gives 0 0 0;
-      left = hub (replicate 2 elsewhere ++ begins 7 ∷ begins 10 ∷ replicate 12 elsewhere) [];
+      left = hub (replicate 2 elsewhere ++ begins 7 ∷ begins 10 ∷ replicate 12 elsewhere) [] 2;
       jobs = 2;
+    }
+    -- beside a stored number that is not the count, requests on different slots don't change places: an open is refused, and behind a close it isn't
+    ∷ misled 2 (ongoing 4) 16 (Open 3 10 job) 32 (ongoing 4) 16 1
+    ∷ asking record {
+      widths = 1024;
+      lent = hub (tableWith 2 (ongoing 4)) (blank 8) 16;
+      earlier = Close 2 6 ∷ [];
+      request = Open 3 10 job;
+      answer = gives 0 0 0;
+      left = hub (replicate 2 elsewhere ++ shut ∷ begins 10 ∷ replicate 12 elsewhere) (blank 8) 16;
+      jobs = 1;
     }
     ∷ []
 
@@ -208,5 +241,5 @@ asked (lone e key number part after a) =
     lone e key number part (r .entry) (r .answer)
 
 pub trials-hold : map asked trials ≡ trials
-unfolding trials asked stepTaken step steps countOpen opening closing submitting areaTaken mayOpen judged maySubmit mayClose entryFields fresh descriptorFields stateFields types sequence element cutFrom cut bytesOf moved character characters cycle placeText placeRule place placed passedBy elementsBy admitted outcome interpreted areaAfter
+unfolding trials asked stepTaken step steps countOpen opening closing oneMore oneLess submitting areaTaken mayOpen judged maySubmit mayClose entryFields fresh descriptorFields stateFields types sequence element cutFrom cut bytesOf moved character characters cycle placeText placeRule place placed passedBy elementsBy admitted outcome interpreted areaAfter
 trials-hold = refl

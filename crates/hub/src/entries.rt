@@ -1,9 +1,9 @@
-// The requests that change an entry alone: open and close, by value.
+// The requests that change an entry and the stored number of open jobs: open and close, the entry by value.
 ghost use mathlib.Core.Path.{_≡_};
 ghost use mathlib.Core.Bool.{true};
 ghost use Rattle.part.specs.Ranges.{hold, descriptorFields};
 ghost use Rattle.hub.specs.Entries.{isOpenUnder, damaged, firstState};
-ghost use Rattle.hub.specs.Requests.{mayOpen, mayClose, opening, closing, out, refusal};
+ghost use Rattle.hub.specs.Requests.{mayOpen, mayClose, opening, closing, oneMore, oneLess, out, refusal};
 ghost use Rattle.hub.specs.Code.{coded, tallied};
 use super::jobs::Entry;
 use super::jobs::Out;
@@ -78,9 +78,9 @@ fn first_state(d: Descriptor) -> State
     }
 }
 
-// An open's checks: 12, 1, 13, 14, 15; 0 where all pass.
-fn may_open(e: Entry, key: u32, d: Descriptor) -> u32
-    ensures { λ r. ⌜ coded r ≡ mayOpen key d e ⌝ }
+// An open's checks: 12, 1, 13, 14, 15, 32; 0 where all pass.
+fn may_open(e: Entry, key: u32, d: Descriptor, stored: u32) -> u32
+    ensures { λ r. ⌜ coded r ≡ mayOpen key d stored e ⌝ }
 {
     if is_damaged(e) {
         return 12;
@@ -97,17 +97,22 @@ fn may_open(e: Entry, key: u32, d: Descriptor) -> u32
     if !descriptor_holds(d) {
         return 15;
     }
+    if stored > 15 {
+        return 32;
+    }
     0
 }
 
-// Opens a job in the entry.
-pub fn open_entry(e: Entry, key: u32, d: Descriptor) -> Out
-    ensures { λ r. ⌜ r ≡ opening key d e ⌝ }
+// Opens a job in the entry, and counts it.
+pub fn open_entry(e: Entry, open_jobs: &mut u32, key: u32, d: Descriptor) -> Out
+    ensures { λ r. ⌜ (r ≡ opening key d (now (open_jobs .entry)) e) × (now (open_jobs .exit) ≡ oneMore key d (now (open_jobs .entry)) e) ⌝ }
 {
-    let code = may_open(e, key, d);
+    let stored = *open_jobs;
+    let code = may_open(e, key, d, stored);
     if code != 0 {
         return refused(e, code);
     }
+    *open_jobs = stored + 1;
     let s = first_state(d);
     let n = Entry {
         key,
@@ -122,9 +127,9 @@ pub fn open_entry(e: Entry, key: u32, d: Descriptor) -> Out
     }
 }
 
-// A close's checks: 12, 1, 16; 0 where all pass.
-fn may_close(e: Entry, key: u32) -> u32
-    ensures { λ r. ⌜ coded r ≡ mayClose key e ⌝ }
+// A close's checks: 12, 1, 16, 32; 0 where all pass.
+fn may_close(e: Entry, key: u32, stored: u32) -> u32
+    ensures { λ r. ⌜ coded r ≡ mayClose key stored e ⌝ }
 {
     if is_damaged(e) {
         return 12;
@@ -136,17 +141,22 @@ fn may_close(e: Entry, key: u32) -> u32
     if !is_open_under(e, key) {
         return 16;
     }
+    if !both(1 <= stored, stored <= 16) {
+        return 32;
+    }
     0
 }
 
-// Closes the entry's job.
-pub fn close_entry(e: Entry, key: u32) -> Out
-    ensures { λ r. ⌜ r ≡ closing key e ⌝ }
+// Closes the entry's job, and counts it no more.
+pub fn close_entry(e: Entry, open_jobs: &mut u32, key: u32) -> Out
+    ensures { λ r. ⌜ (r ≡ closing key (now (open_jobs .entry)) e) × (now (open_jobs .exit) ≡ oneLess key (now (open_jobs .entry)) e) ⌝ }
 {
-    let code = may_close(e, key);
+    let stored = *open_jobs;
+    let code = may_close(e, key, stored);
     if code != 0 {
         return refused(e, code);
     }
+    *open_jobs = stored - 1;
     let mut n = e;
     n.mark = 0;
     Out {

@@ -1,6 +1,6 @@
 // The requests over a lent table of entries: each tests what is lent, then the slot, and changes one entry.
 // Each contract says that the function is its request's step: r is the step's answer, and what is lent is left as the step leaves it.
-// Open and close are lent the table only: theirs hold for any widths and record bytes, and say that the step leaves those bytes alone.
+// What a function is not lent may be anything: the step leaves it alone. Open and close are lent no widths and no record bytes, a submit no number of open jobs.
 ghost use mathlib.Core.Path.{_≡_};
 ghost use mathlib.Core.List.{List};
 ghost use Prim.Native.Nat.{ℕ};
@@ -27,12 +27,18 @@ const NO_SLOT: Answer = Answer {
     second: 0,
 };
 
-// Opens a job under a key, with a descriptor.
+// Opens a job under a key, with a descriptor; beside the table is lent the stored number of open jobs.
 #[no_mangle]
-pub extern "C" fn halviruso_open(table: &mut [Entry], slot: u32, key: u32, d: Descriptor) -> Answer
+pub extern "C" fn halviruso_open(
+    table: &mut [Entry],
+    open_jobs: &mut u32,
+    slot: u32,
+    key: u32,
+    d: Descriptor,
+) -> Answer
     ensures { λ r. ⌜ ((widths records : List ℕ) →
-        let s = step widths (hub (now (table .entry)) records) (Open slot key d) in
-        (r ≡ s .answer) × (now (table .exit) ≡ s .after .table) × (records ≡ s .after .records)) ⌝ }
+        let s = step widths (hub (now (table .entry)) records (now (open_jobs .entry))) (Open slot key d) in
+        (r ≡ s .answer) × (now (table .exit) ≡ s .after .table) × (records ≡ s .after .records) × (now (open_jobs .exit) ≡ s .after .stored)) ⌝ }
 {
     if table.len() != 16 {
         return WRONG_LENGTH;
@@ -41,7 +47,7 @@ pub extern "C" fn halviruso_open(table: &mut [Entry], slot: u32, key: u32, d: De
         return NO_SLOT;
     }
     let at = slot as usize;
-    let o = open_entry(table[at], key, d);
+    let o = open_entry(table[at], open_jobs, key, d);
     table[at] = o.entry;
     o.answer
 }
@@ -57,9 +63,9 @@ pub extern "C" fn halviruso_submit(
     number: u32,
     part: &[u8],
 ) -> Answer
-    ensures { λ r. ⌜ (
-        let s = step (now (widths .entry)) (hub (now (table .entry)) (now (records .entry))) (Submit slot key number (now (part .entry))) in
-        (r ≡ s .answer) × (now (table .exit) ≡ s .after .table) × (now (records .exit) ≡ s .after .records)) ⌝ }
+    ensures { λ r. ⌜ ((stored : ℕ) →
+        let s = step (now (widths .entry)) (hub (now (table .entry)) (now (records .entry)) stored) (Submit slot key number (now (part .entry))) in
+        (r ≡ s .answer) × (now (table .exit) ≡ s .after .table) × (now (records .exit) ≡ s .after .records) × (stored ≡ s .after .stored)) ⌝ }
 {
     if table.len() != 16 {
         return WRONG_LENGTH;
@@ -79,12 +85,17 @@ pub extern "C" fn halviruso_submit(
     o.answer
 }
 
-// Closes the job of this key.
+// Closes the job of this key; beside the table is lent the stored number of open jobs.
 #[no_mangle]
-pub extern "C" fn halviruso_close(table: &mut [Entry], slot: u32, key: u32) -> Answer
+pub extern "C" fn halviruso_close(
+    table: &mut [Entry],
+    open_jobs: &mut u32,
+    slot: u32,
+    key: u32,
+) -> Answer
     ensures { λ r. ⌜ ((widths records : List ℕ) →
-        let s = step widths (hub (now (table .entry)) records) (Close slot key) in
-        (r ≡ s .answer) × (now (table .exit) ≡ s .after .table) × (records ≡ s .after .records)) ⌝ }
+        let s = step widths (hub (now (table .entry)) records (now (open_jobs .entry))) (Close slot key) in
+        (r ≡ s .answer) × (now (table .exit) ≡ s .after .table) × (records ≡ s .after .records) × (now (open_jobs .exit) ≡ s .after .stored)) ⌝ }
 {
     if table.len() != 16 {
         return WRONG_LENGTH;
@@ -93,7 +104,7 @@ pub extern "C" fn halviruso_close(table: &mut [Entry], slot: u32, key: u32) -> A
         return NO_SLOT;
     }
     let at = slot as usize;
-    let o = close_entry(table[at], key);
+    let o = close_entry(table[at], open_jobs, key);
     table[at] = o.entry;
     o.answer
 }

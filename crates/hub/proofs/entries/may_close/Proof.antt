@@ -31,9 +31,16 @@ returns-3 : tie.Need-returns-3
 unfolding mayClose
 returns-3 c = rw (sym (c .before .before .before .before .before .before .before .before .is-damaged .ensures) ∙ c .before .before .before .before .before .before .before .if1 .left, rw (c .before .before .before .both2 .ensures, c .before .before .before .before .both .ensures) at (c .before .before .if2 .left), sym (c .before .is-open-under .ensures) ∙ not-true (c .before .is-open-under .result) (c .if3 .taken))
 
+both-requires-3 : tie.Need-both-requires-3
+both-requires-3 c κs = search needs
+
 returns-4 : tie.Need-returns-4
 unfolding mayClose
-returns-4 c = rw (sym (c .before .before .before .before .before .before .before .before .is-damaged .ensures) ∙ c .before .before .before .before .before .before .before .if1 .left, rw (c .before .before .before .both2 .ensures, c .before .before .before .before .both .ensures) at (c .before .before .if2 .left), sym (c .before .is-open-under .ensures) ∙ not-false (c .before .is-open-under .result) (c .if3 .left))
+returns-4 c = rw (sym (c .before .before .before .before .before .before .before .before .before .before .is-damaged .ensures) ∙ c .before .before .before .before .before .before .before .before .before .if1 .left, rw (c .before .before .before .before .before .both2 .ensures, c .before .before .before .before .before .before .both .ensures) at (c .before .before .before .before .if2 .left), sym (c .before .before .before .is-open-under .ensures) ∙ not-false (c .before .before .before .is-open-under .result) (c .before .before .if3 .left), sym (c .before .both3 .ensures) ∙ not-true (c .before .both3 .result) (c .if4 .taken))
+
+returns-5 : tie.Need-returns-5
+unfolding mayClose
+returns-5 c = rw (sym (c .before .before .before .before .before .before .before .before .before .before .is-damaged .ensures) ∙ c .before .before .before .before .before .before .before .before .before .if1 .left, rw (c .before .before .before .before .before .both2 .ensures, c .before .before .before .before .before .before .both .ensures) at (c .before .before .before .before .if2 .left), sym (c .before .before .before .is-open-under .ensures) ∙ not-false (c .before .before .before .is-open-under .result) (c .before .before .if3 .left), sym (c .before .both3 .ensures) ∙ not-false (c .before .both3 .result) (c .if4 .left))
 
 pub may-close-spec : {M : Type 1} → statement M
 may-close-spec =
@@ -46,4 +53,6 @@ may-close-spec =
     returns-2
     is-open-under-requires
     returns-3
-    returns-4)
+    both-requires-3
+    returns-4
+    returns-5)

@@ -38,7 +38,11 @@ returns-5 c = rw (sym (c .before .before .before .before .before .before .before
 
 returns-6 : tie.Need-returns-6
 unfolding mayOpen
-returns-6 c = rw (sym (c .before .before .before .before .before .before .before .before .before .is-damaged .ensures) ∙ c .before .before .before .before .before .before .before .before .if1 .left, sym (c .before .before .before .before .before .before .before .is-open-under .ensures) ∙ c .before .before .before .before .before .before .if2 .left, eq-eqb _ _ (c .before .before .before .before .if3 .left), lt-leb _ _ (c .before .before .if4 .left), sym (c .before .descriptor-holds .ensures) ∙ not-false (c .before .descriptor-holds .result) (c .if5 .left))
+returns-6 c = rw (sym (c .before .before .before .before .before .before .before .before .before .before .is-damaged .ensures) ∙ c .before .before .before .before .before .before .before .before .before .if1 .left, sym (c .before .before .before .before .before .before .before .before .is-open-under .ensures) ∙ c .before .before .before .before .before .before .before .if2 .left, eq-eqb _ _ (c .before .before .before .before .before .if3 .left), lt-leb _ _ (c .before .before .before .if4 .left), sym (c .before .before .descriptor-holds .ensures) ∙ not-false (c .before .before .descriptor-holds .result) (c .before .if5 .left), lt-leb _ _ (c .if6 .taken))
+
+returns-7 : tie.Need-returns-7
+unfolding mayOpen
+returns-7 c = rw (sym (c .before .before .before .before .before .before .before .before .before .before .is-damaged .ensures) ∙ c .before .before .before .before .before .before .before .before .before .if1 .left, sym (c .before .before .before .before .before .before .before .before .is-open-under .ensures) ∙ c .before .before .before .before .before .before .before .if2 .left, eq-eqb _ _ (c .before .before .before .before .before .if3 .left), lt-leb _ _ (c .before .before .before .if4 .left), sym (c .before .before .descriptor-holds .ensures) ∙ not-false (c .before .before .descriptor-holds .result) (c .before .if5 .left), le-leb _ _ (c .if6 .left))
 
 pub may-open-spec : {M : Type 1} → statement M
 may-open-spec =
@@ -52,4 +56,5 @@ may-open-spec =
     returns-4
     descriptor-holds-requires
     returns-5
-    returns-6)
+    returns-6
+    returns-7)

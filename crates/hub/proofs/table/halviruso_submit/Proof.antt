@@ -106,7 +106,7 @@ module _ {M : Type 1} (𝓤 : URA M) (H : Heap 𝓤) (A : Atoms 𝓤) (W : Given
 
   -- the contract's fact: what is answered and left is what the step gives
   abbrev Said : Answer → List Entry → Ws → Type 0
-  Said r zs us = IsReply (step (x-widths .now) (hub ys (x-records .now)) request) r (hub zs (us .0))
+  Said r zs us = (x-open_jobs : ℕ) → IsReply (step (x-widths .now) (hub ys (x-records .now) x-open_jobs) request) r (hub zs (us .0) x-open_jobs)
 
   exits : (r : Answer) (zs : List Entry) (us : Ws) → Said r zs us → Is-answer r → length zs ≡ length ys → ent 𝓤 (⋆ 𝓤 H A (‵ (fobs γ (codedHoleys E.the-row .code (heres E.the-row zs))) ∷ ‵ (flft κ q) ∷ raw tk ∷ ‵ (lasts callee.ended κs (getD ys x-slot fresh, on) (tt, us)) ∷ [])) (End (answer-val r))
   exits r zs us said is same-length =
@@ -138,7 +138,7 @@ module _ {M : Type 1} (𝓤 : URA M) (H : Heap 𝓤) (A : Atoms 𝓤) (W : Given
         move ! (2 ∷ 33 ∷ 31 ∷ 32 ∷ 29 ∷ 30 ∷ 27 ∷ 28 ∷ 25 ∷ 26 ∷ 23 ∷ 24 ∷ 21 ∷ 22 ∷ 19 ∷ 20 ∷ 17 ∷ 18 ∷ 15 ∷ 16 ∷ 0 ∷ 14 ∷ 1 ∷ 13 ∷ 11 ∷ 12 ∷ 9 ∷ 10 ∷ 7 ∷ 8 ∷ 5 ∷ 6 ∷ 3 ∷ 4 ∷ []) $
         free-at ! $ free-at ! $ free-at ! $ free-at ! $ free-at ! $ free-at ! $ free-at ! $ free-at ! $ free1 ! $ free1 ! $ free1 ! $ free1 ! $ free1 ! $ free1 ! $ free1 ! $ free1 ! $ free1 ! $ free0 ! $
         move ! (4 ∷ []) $ use1 W (‵ (lasts callee.ended κs (e, on) (tt, (x-records .now, (tt, (tt, (tt, (tt, (tt, tt))))))))) kept $ keep ! (1 ∷ 3 ∷ 4 ∷ 0 ∷ []) $
-        by ! (exits r ys (x-records .now, (tt, (tt, (tt, (tt, (tt, tt)))))) (refused-step (x-widths .now) (hub ys (x-records .now)) request way) (way-is way) refl)) (λ both.
+        by ! (exits r ys (x-records .now, (tt, (tt, (tt, (tt, (tt, tt)))))) (λ x-open_jobs. refused-step (x-widths .now) (hub ys (x-records .now) x-open_jobs) request way) (way-is way) refl)) (λ both.
         move ! (34 ∷ 35 ∷ 36 ∷ 31 ∷ 25 ∷ 17 ∷ 0 ∷ 11 ∷ 9 ∷ []) $
         reads-record 𝓤 H A W κ q b o γ ys x-slot room (within-table 1 ys others x-slot both) (named 0) l₀ l₁ l₄ l₈ l₁₀ l₁₂ l₁₆ l₁₃ l₉ C Λ _ 1 8 10 refl refl refl End _ 4 12 13 refl refl refl _ (λ is.
         assigns ! (addr ! (from ! (fld ! refl (hop ! (look-in ! 33 (sub ! 0 refl (whole !))) (stop !))))) (from ! (stop !)) (init ! 15 refl (tt, tt)) $
@@ -151,7 +151,7 @@ module _ {M : Type 1} (𝓤 : URA M) (H : Heap 𝓤) (A : Atoms 𝓤) (W : Given
         stores-record 𝓤 H A W κ q b o γ ys x-slot room (within-table 1 ys others x-slot both) (named 0) l₀ l₁ l₄ l₈ l₁₀ l₁₂ l₁₆ l₁₃ l₉ C Λ _ 1 8 10 refl refl refl End _ 16 9 refl refl refl d w isr (λ is-answer.
         move ! (6 ∷ 38 ∷ 3 ∷ 37 ∷ 35 ∷ 36 ∷ 33 ∷ 34 ∷ 11 ∷ 32 ∷ 30 ∷ 31 ∷ 28 ∷ 29 ∷ 26 ∷ 27 ∷ 4 ∷ 25 ∷ 8 ∷ 24 ∷ 5 ∷ 23 ∷ 14 ∷ 22 ∷ 12 ∷ 21 ∷ 13 ∷ 20 ∷ 18 ∷ 19 ∷ 16 ∷ 17 ∷ 7 ∷ 15 ∷ []) $
         free-at ! $ free-at ! $ free-at ! $ free-at ! $ free-at ! $ free-at ! $ free-at ! $ free-at ! $ free-at ! $ free-at ! $ free-at ! $ free1 ! $ free1 ! $ free-at ! $ free-at ! $ free-at ! $ free-at ! $ free0 ! $
-        keep ! (0 ∷ 2 ∷ 3 ∷ 4 ∷ []) $ by ! (exits (d .answer) (set ys x-slot (d .entry)) (us .1) (taken-step (x-widths .now) (hub ys (x-records .now)) request both d (us .1 .0) (said .0) (said .1)) is-answer (length-set ys x-slot (d .entry))))))))))))))))))))))))
+        keep ! (0 ∷ 2 ∷ 3 ∷ 4 ∷ []) $ by ! (exits (d .answer) (set ys x-slot (d .entry)) (us .1) (λ x-open_jobs. taken-step (x-widths .now) (hub ys (x-records .now) x-open_jobs) request both d (us .1 .0) x-open_jobs (said .0) (said .1) refl) is-answer (length-set ys x-slot (d .entry))))))))))))))))))))))))
 
 pub halviruso-submit-spec : {M : Type 1} → stated.statement M
 unfolding code.routine tablesOf
