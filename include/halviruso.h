@@ -4,8 +4,8 @@
  * The host lends the memory, the library keeps none of its own and calls nothing back. Every function below takes any numbers, any bytes and any
  * lengths, always ends, and answers by the table of codes; every code but 0 leaves all that was lent as it was. A slice is a pointer and a length,
  * counted in elements. What a pointer points to must be aligned for its type and readable (and writable, where it is not const) for that length; with
- * a length of 0 it may be null. Two slices lent to one call must not overlap. The library takes no lock: two calls that are lent the same table must
- * not run at the same time. docs/HOSTS.md says what to do about each answer.
+ * a length of 0 it may be null. Two slices lent to one call must not overlap. `open_jobs` points to one number: never null, and no part of the table.
+ * The library takes no lock: two calls that are lent the same table must not run at the same time. docs/HOSTS.md says what to do about each answer.
  *
  * Link with build/libhalviruso.a, which `make lib` leaves. x86-64 Linux.
  */
@@ -57,7 +57,8 @@ enum {
     HALVIRUSO_SUPPRESSION = 26,      /* BSU and ESU do not pair */
     HALVIRUSO_OUTSIDE = 27,          /* text or rule off the sheet */
     HALVIRUSO_POSITION = 28,         /* I or B past -32,768..32,767 */
-    HALVIRUSO_NO_ROOM = 29           /* the record area is full */
+    HALVIRUSO_NO_ROOM = 29,          /* the record area is full */
+    HALVIRUSO_STORED_NUMBER = 32     /* the number of open jobs beside the table cannot be the table's: set it to halviruso_count's, and send again */
 };
 
 /* Every number is 32 bits and there is no padding: whatever bytes the lent memory holds, they are a value that the promises speak of. */
@@ -120,20 +121,24 @@ typedef struct halviruso_interpreted {
     halviruso_state state; /* where the part ends; with a refusal the state that was given */
 } halviruso_interpreted;
 
-/* A fresh table: every slot closed, every last key 0. Where a table begins its life. */
+/* A fresh table: every slot closed, every last key 0. Where a table begins its life; the number of open jobs beside it is 0. */
 halviruso_table halviruso_fresh(void);
 
-/* Opens a job in a slot under a key, which must be above every key the slot has had. 0, 1, 10 to 15. Record bytes stay. */
-halviruso_answer halviruso_open(halviruso_entry *table, size_t table_length, uint32_t slot, uint32_t key, halviruso_descriptor descriptor);
+/* Opens a job in a slot under a key, which must be above every key the slot has had. 0, 1, 10 to 15; last of all 32, for an *open_jobs above 15. That is
+ * the stored number of open jobs, which the host keeps beside the table: an open that is done adds one to it. Record bytes stay. */
+halviruso_answer halviruso_open(halviruso_entry *table, size_t table_length, uint32_t *open_jobs, uint32_t slot, uint32_t key,
+                                halviruso_descriptor descriptor);
 
 /* Submits part `number` of the job: the first is 1, and each is sent again, with the same number, until it is answered. 0, 1, 10 to 12, 16 to 29. */
 halviruso_answer halviruso_submit(halviruso_entry *table, size_t table_length, uint8_t *records, size_t records_length, const uint16_t *widths,
                                   size_t widths_length, uint32_t slot, uint32_t key, uint32_t number, const uint8_t *part, size_t part_length);
 
-/* Closes the job of this key. 0, 1, 10, 11, 12, 16. Its records stay until the slot's next job writes over them. */
-halviruso_answer halviruso_close(halviruso_entry *table, size_t table_length, uint32_t slot, uint32_t key);
+/* Closes the job of this key. 0, 1, 10, 11, 12, 16; last of all 32, for an *open_jobs of 0 or above 16. A close that is done takes one off it. The job's
+ * records stay until the slot's next job writes over them. */
+halviruso_answer halviruso_close(halviruso_entry *table, size_t table_length, uint32_t *open_jobs, uint32_t slot, uint32_t key);
 
-/* How many jobs are open, damaged entries included; 0 for a table of another length. */
+/* How many jobs are open, damaged entries included; 0 for a table of another length. It walks the table. The stored number that is right once, 0 beside a
+ * fresh table or this count beside any other, is this count after every request. */
 uint32_t halviruso_count(const halviruso_entry *table, size_t table_length);
 
 /* Interprets one part from a state, for a host that keeps its own table: an area of 4,096 bytes, 1,024 widths. 0, 10, 12, 15, 19 to 29. With 0 the
