@@ -11,6 +11,7 @@ mod numbers;
 mod parts;
 mod requests;
 mod rng;
+mod stored;
 
 pub use checks::{checked_part, increment};
 pub use ground::Ground;

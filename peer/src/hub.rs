@@ -1,8 +1,8 @@
-//! The job table: slots, keys and part numbers.
+//! The job table: slots, keys and part numbers, and beside it the stored number of open jobs.
 
 use crate::answer::{Answer, Code};
 use crate::interpret::interpret_in_range;
-use crate::model::{Descriptor, Entry, AREA, GREATEST_NEXT, RECORDS, SLOTS};
+use crate::model::{Descriptor, Entry, AREA, GREATEST_NEXT, MOST_OPEN, RECORDS, SLOTS};
 
 /// All memory that a submit is lent.
 #[derive(Debug)]
@@ -15,8 +15,14 @@ pub struct Lent<'a> {
     pub widths: &'a [u16],
 }
 
-/// Opens a job in a slot.
-pub fn open(table: &mut [Entry], slot: u32, key: u32, descriptor: &Descriptor) -> Answer {
+/// Opens a job in a slot, and counts it.
+pub fn open(
+    table: &mut [Entry],
+    stored: &mut u32,
+    slot: u32,
+    key: u32,
+    descriptor: &Descriptor,
+) -> Answer {
     let entry = match entry_of(table, slot) {
         Ok(entry) => entry,
         Err(code) => return Answer::only(code),
@@ -30,6 +36,11 @@ pub fn open(table: &mut [Entry], slot: u32, key: u32, descriptor: &Descriptor) -
     if !descriptor.in_range() {
         return Answer::only(Code::Descriptor);
     }
+    // With a slot still closed there are fewer open jobs than slots.
+    if *stored >= MOST_OPEN {
+        return Answer::only(Code::Stored);
+    }
+    *stored += 1;
     *entry = Entry::opened(key, descriptor);
     Answer::only(Code::Done)
 }
@@ -58,8 +69,8 @@ pub fn submit(lent: Lent<'_>, slot: u32, key: u32, number: u32, part: &[u8]) -> 
     answer
 }
 
-/// Closes a job; only its open mark changes.
-pub fn close(table: &mut [Entry], slot: u32, key: u32) -> Answer {
+/// Closes a job, and counts it no more; of its entry only the open mark changes.
+pub fn close(table: &mut [Entry], stored: &mut u32, slot: u32, key: u32) -> Answer {
     let entry = match entry_of(table, slot) {
         Ok(entry) => entry,
         Err(code) => return Answer::only(code),
@@ -67,12 +78,17 @@ pub fn close(table: &mut [Entry], slot: u32, key: u32) -> Answer {
     if entry.key != key {
         return Answer::only(Code::NoJob);
     }
-    if entry.is_open() {
-        entry.mark = 0;
-        return Answer::only(Code::Done);
+    if !entry.is_open() {
+        // A fresh entry holds key 0, under which no job was closed.
+        return Answer::only(if key > 0 { Code::Taken } else { Code::NoJob });
     }
-    // A fresh entry holds key 0, under which no job was closed.
-    Answer::only(if key > 0 { Code::Taken } else { Code::NoJob })
+    // This job is open, so there is at least one.
+    if !(1..=MOST_OPEN).contains(stored) {
+        return Answer::only(Code::Stored);
+    }
+    *stored -= 1;
+    entry.mark = 0;
+    Answer::only(Code::Done)
 }
 
 /// Open jobs, damaged ones too; none in a table of another length.

@@ -5,6 +5,8 @@
 
 /// Slots of the job table.
 pub const SLOTS: usize = 16;
+/// The greatest number of open jobs.
+pub const MOST_OPEN: u32 = SLOTS as u32;
 /// Record bytes of one slot.
 pub const AREA: usize = 4_096;
 /// Record bytes of all slots.

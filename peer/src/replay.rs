@@ -1,5 +1,6 @@
 //! Runs replay scripts over lent memory, on any implementation of the hub.
 
+mod memory;
 mod standard;
 mod stopped;
 
@@ -15,6 +16,7 @@ use crate::model::{Descriptor, Entry, State, AREA, CODE_POINTS, RECORDS, SLOTS, 
 use crate::record::records;
 use crate::script::{Bad, Lend, Step};
 
+pub use memory::Memory;
 pub use standard::{complain, standard};
 pub use stopped::Stopped;
 
@@ -22,12 +24,19 @@ pub use stopped::Stopped;
 pub trait Backend {
     /// A fresh table.
     fn fresh(&mut self) -> [Entry; SLOTS];
-    /// Opens a job.
-    fn open(&mut self, table: &mut [Entry], slot: u32, key: u32, d: &Descriptor) -> Answer;
+    /// Opens a job; `stored` is the number of open jobs.
+    fn open(
+        &mut self,
+        table: &mut [Entry],
+        stored: &mut u32,
+        slot: u32,
+        key: u32,
+        d: &Descriptor,
+    ) -> Answer;
     /// Submits a part.
     fn submit(&mut self, lent: Lent<'_>, slot: u32, key: u32, number: u32, part: &[u8]) -> Answer;
-    /// Closes a job.
-    fn close(&mut self, table: &mut [Entry], slot: u32, key: u32) -> Answer;
+    /// Closes a job; `stored` is the number of open jobs.
+    fn close(&mut self, table: &mut [Entry], stored: &mut u32, slot: u32, key: u32) -> Answer;
     /// Counts open jobs.
     fn count(&mut self, table: &[Entry]) -> u32;
     /// Interprets one part directly.
@@ -54,16 +63,23 @@ impl Backend for Peer {
         [Entry::FRESH; SLOTS]
     }
 
-    fn open(&mut self, table: &mut [Entry], slot: u32, key: u32, d: &Descriptor) -> Answer {
-        hub::open(table, slot, key, d)
+    fn open(
+        &mut self,
+        table: &mut [Entry],
+        stored: &mut u32,
+        slot: u32,
+        key: u32,
+        d: &Descriptor,
+    ) -> Answer {
+        hub::open(table, stored, slot, key, d)
     }
 
     fn submit(&mut self, lent: Lent<'_>, slot: u32, key: u32, number: u32, part: &[u8]) -> Answer {
         hub::submit(lent, slot, key, number, part)
     }
 
-    fn close(&mut self, table: &mut [Entry], slot: u32, key: u32) -> Answer {
-        hub::close(table, slot, key)
+    fn close(&mut self, table: &mut [Entry], stored: &mut u32, slot: u32, key: u32) -> Answer {
+        hub::close(table, stored, slot, key)
     }
 
     fn count(&mut self, table: &[Entry]) -> u32 {
@@ -90,52 +106,6 @@ impl Backend for Peer {
     }
 }
 
-/// The memory that a script's requests are lent; beyond the real lengths it is zero and closed.
-#[derive(Clone, Debug, PartialEq, Eq)]
-pub struct Memory {
-    /// The job table, 16 entries and 4 beyond.
-    pub table: Vec<Entry>,
-    /// The record buffer, 65,536 bytes and 4 beyond.
-    pub records: Vec<u8>,
-    /// The width table, 1,024 numbers and 4 beyond.
-    pub widths: Vec<u16>,
-}
-
-impl Memory {
-    /// This fresh table, zero record bytes, widths of 144.
-    fn new(fresh: [Entry; SLOTS]) -> Self {
-        let beyond = Entry { state: ZERO_STATE, next: 0, ..Entry::FRESH };
-        let mut memory = Self {
-            table: vec![beyond; Lend::MOST.table],
-            records: vec![0; Lend::MOST.records],
-            widths: vec![0; Lend::MOST.widths],
-        };
-        memory.table[..SLOTS].copy_from_slice(&fresh);
-        memory.widths[..WIDTHS].fill(144);
-        memory
-    }
-
-    /// The record bytes of a slot, 0..15.
-    pub fn area(&self, slot: usize) -> &[u8] {
-        &self.records[AREA * slot..][..AREA]
-    }
-}
-
-const ZERO_STATE: State = State {
-    i: 0,
-    b: 0,
-    margin: 0,
-    increment: 0,
-    adjustment: 0,
-    direction: 0,
-    font: 0,
-    colour: 0,
-    space: 0,
-    suppression: 0,
-    chain: 0,
-    used: 0,
-};
-
 /// What a step says.
 #[derive(Clone, Debug, PartialEq, Eq)]
 pub enum Said {
@@ -145,6 +115,8 @@ pub enum Said {
     Answer(Answer),
     /// The count of open jobs.
     Count(u32),
+    /// The stored number of them.
+    Stored(u32),
     /// The code of a part alone.
     Check(u32),
     /// Lines that show memory.
@@ -157,6 +129,7 @@ impl fmt::Display for Said {
             Self::Nothing => Ok(()),
             Self::Answer(Answer { code, first, second }) => writeln!(f, "{code} {first} {second}"),
             Self::Count(count) => writeln!(f, "COUNT {count}"),
+            Self::Stored(stored) => writeln!(f, "STORED {stored}"),
             Self::Check(code) => writeln!(f, "CHECK {code}"),
             Self::Shown(lines) => f.write_str(lines),
         }
@@ -230,7 +203,11 @@ impl<B: Backend> Replay<B> {
                 }
             }
             Step::Fill(byte) => self.memory.records[..RECORDS].fill(byte),
-            Step::Fresh => self.memory.table[..SLOTS].copy_from_slice(&self.backend.fresh()),
+            Step::Fresh => {
+                self.memory.table[..SLOTS].copy_from_slice(&self.backend.fresh());
+                self.memory.stored = 0;
+            }
+            Step::Store(number) => self.memory.stored = number,
             Step::Lend(Lend { table, records, widths }) => {
                 self.lend = Lend {
                     table: table.min(Lend::MOST.table),
@@ -251,9 +228,10 @@ impl<B: Backend> Replay<B> {
     /// Does a step that says something.
     fn ask(&mut self, step: &Step) -> Said {
         let table = &mut self.memory.table[..self.lend.table];
+        let stored = &mut self.memory.stored;
         match *step {
             Step::Open { slot, key, ref descriptor } => {
-                Said::Answer(self.backend.open(table, slot, key, descriptor))
+                Said::Answer(self.backend.open(table, stored, slot, key, descriptor))
             }
             Step::Submit { slot, key, number, ref part } => {
                 let records = &mut self.memory.records[..self.lend.records];
@@ -261,8 +239,9 @@ impl<B: Backend> Replay<B> {
                 let lent = Lent { table, records, widths };
                 Said::Answer(self.backend.submit(lent, slot, key, number, part))
             }
-            Step::Close { slot, key } => Said::Answer(self.backend.close(table, slot, key)),
+            Step::Close { slot, key } => Said::Answer(self.backend.close(table, stored, slot, key)),
             Step::Count => Said::Count(self.backend.count(table)),
+            Step::Stored => Said::Stored(*stored),
             Step::Direct { slot, ref part } if slot < SLOTS => self.direct(slot, part),
             Step::Check { ref part } => Said::Check(self.backend.check(part)),
             Step::CheckAt { increment, ref part } => {

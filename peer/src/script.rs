@@ -77,6 +77,10 @@ pub enum Step {
     },
     /// Counts open jobs.
     Count,
+    /// The stored number of open jobs becomes this, right or wrong.
+    Store(u32),
+    /// Shows the stored number of open jobs.
+    Stored,
     /// Interprets a part directly, from a slot's descriptor and state.
     Direct {
         /// Slot, 0..15.
@@ -145,6 +149,8 @@ impl fmt::Display for Step {
             }
             Self::Close { slot, key } => write!(f, "close {slot} {key}"),
             Self::Count => f.write_str("count"),
+            Self::Store(number) => write!(f, "stored {number}"),
+            Self::Stored => f.write_str("stored"),
             Self::Direct { slot, part } => write!(f, "direct {slot} {}", Hex(part)),
             Self::Check { part } => write!(f, "check {}", Hex(part)),
             Self::CheckAt { increment, part } => write!(f, "check-at {increment} {}", Hex(part)),
@@ -207,6 +213,9 @@ mod tests {
         for good in ["check -", "check-at 0 -", "check-at 4294967295 -", "check-at 00180 -"] {
             assert!(!is_bad(good), "{good}");
         }
+        for good in ["stored", "stored 0", "stored 17", "stored 4294967295", "stored 0016"] {
+            assert!(!is_bad(good), "{good}");
+        }
         for bad in ["widths 65536", "fill 256", "width 4 0 0", "width 0 256 0", "lend 21 0 0"] {
             assert!(is_bad(bad), "{bad}");
         }
@@ -217,6 +226,9 @@ mod tests {
             assert!(is_bad(bad), "{bad}");
         }
         for bad in ["check-at 4294967296 -", "check-at -1 -", "check-at +180 -", "check-at - -"] {
+            assert!(is_bad(bad), "{bad}");
+        }
+        for bad in ["stored 4294967296", "stored -1", "stored +1", "stored -", "stored 1 2"] {
             assert!(is_bad(bad), "{bad}");
         }
     }
@@ -235,6 +247,12 @@ mod tests {
         for bad in ["check", "check 180 C1", "check-at 180", "check-at C1", "check_at 180 C1"] {
             assert!(is_bad(bad), "{bad:?}");
         }
+        for bad in ["Stored", "STORED 1", "stored ", "stored  1", "store 1", "stored#", "stored N"]
+        {
+            assert!(is_bad(bad), "{bad:?}");
+        }
+        assert_eq!(Step::parse("stored"), Ok(Step::Stored));
+        assert_eq!(Step::parse("stored 007"), Ok(Step::Store(7)));
         let part = vec![0x2B, 0xD3, 0x02, 0xD8];
         let direct = Step::Direct { slot: 1, part: part.clone() };
         assert_eq!(Step::parse("direct 1 2bD302d8"), Ok(direct));

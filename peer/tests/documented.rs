@@ -45,6 +45,11 @@ fn line(form: &str, name: &str, value: &str) -> String {
     words.collect::<Vec<_>>().join(" ")
 }
 
+/// The first word of a line, and how many words it has.
+fn shape(line: &str) -> (Option<&str>, usize) {
+    (line.split(' ').next(), line.split(' ').count())
+}
+
 fn printed(script: &str) -> String {
     let mut out = Vec::new();
     Replay::new(Peer).run(script.as_bytes(), &mut out).expect(script);
@@ -62,14 +67,34 @@ fn the_table_has_the_lines_that_are_read() {
 
 #[test]
 fn each_line_of_the_table_prints_something_or_nothing_as_told() {
-    for row in table(LINES) {
-        let line = line(quoted(&row[0])[0], "", "");
+    let rows = table(LINES);
+    let lines: Vec<String> = rows.iter().map(|row| line(quoted(&row[0])[0], "", "")).collect();
+    for (row, line) in rows.iter().zip(&lines) {
         let out = printed(&format!("{line}\n"));
         assert_eq!(out.is_empty(), row[2] == "nothing", "{line} prints {out:?}");
-        assert!(Step::parse(&format!("{line} 1")).is_err(), "{line} 1");
-        let fewer = line.rsplit_once(' ').map_or("", |(fewer, _)| fewer);
-        assert!(Step::parse(fewer).is_err(), "{fewer}");
+        // A word more or less makes another line of the table, or a bad one.
+        let (more, fewer) =
+            (format!("{line} 1"), line.rsplit_once(' ').map_or("", |(most, _)| most));
+        for other in [&more, fewer] {
+            let is_told = lines.iter().any(|told| shape(told) == shape(other));
+            assert_eq!(Step::parse(other).is_ok(), is_told, "{other}");
+        }
     }
+}
+
+/// The words that a row of the ranges is about, each with a form that has it.
+fn named(row: &[String]) -> Vec<(&'static str, &str)> {
+    let mut found = Vec::new();
+    for first in quoted(&row[1]) {
+        let before = found.len();
+        for form in forms().filter(|form| shape(form).0 == Some(first)) {
+            let names = quoted(&row[0]).into_iter();
+            let names = names.filter(|name| form.split(' ').any(|of| of == *name));
+            found.extend(names.map(|name| (form, name)));
+        }
+        assert!(found.len() > before, "{first} has no word of {}", row[0]);
+    }
+    found
 }
 
 #[test]
@@ -77,19 +102,14 @@ fn the_least_and_the_greatest_numbers_are_taken_and_no_others() {
     let mut tried = 0;
     for row in table(RANGES) {
         let [least, greatest] = [&row[2], &row[3]].map(|end| end.parse::<i64>().expect("a number"));
-        for first in quoted(&row[1]) {
-            let form = forms().find(|form| form.split(' ').next() == Some(first)).expect(first);
-            for name in
-                quoted(&row[0]).into_iter().filter(|name| form.split(' ').any(|of| of == *name))
+        for (form, name) in named(&row) {
+            for (value, is_taken) in
+                [(least, true), (greatest, true), (least - 1, false), (greatest + 1, false)]
             {
-                for (value, is_taken) in
-                    [(least, true), (greatest, true), (least - 1, false), (greatest + 1, false)]
-                {
-                    let line = line(form, name, &value.to_string());
-                    assert_eq!(Step::parse(&line).is_ok(), is_taken, "{line}");
-                }
-                tried += 1;
+                let line = line(form, name, &value.to_string());
+                assert_eq!(Step::parse(&line).is_ok(), is_taken, "{line}");
             }
+            tried += 1;
         }
     }
     // Every word of every form but the first ones and HEX.

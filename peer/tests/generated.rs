@@ -11,12 +11,12 @@ use peer::replay::{Peer, Replay, Said, Stopped};
 use peer::script::Step;
 use peer::{interpret, sheet, Answer, State};
 
-const CODES: [u32; 22] =
-    [0, 1, 10, 11, 12, 13, 14, 15, 16, 17, 18, 19, 20, 21, 22, 23, 24, 25, 26, 27, 28, 29];
+const CODES: [u32; 23] =
+    [0, 1, 10, 11, 12, 13, 14, 15, 16, 17, 18, 19, 20, 21, 22, 23, 24, 25, 26, 27, 28, 29, 32];
 
 #[test]
 fn requests_meet_every_answer_often() {
-    let mut met = [0; 30];
+    let mut met = [0; 33];
     let (mut accepted_long, mut accepted_full, mut most_elements) = (0, 0, 0);
     for seed in 0..20 {
         for (step, said) in Requests::new(seed, Reach::Script).take(1_000) {
@@ -39,7 +39,7 @@ fn requests_meet_every_answer_often() {
 #[test]
 fn direct_calls_meet_every_answer_and_refusals_touch_nothing() {
     let mut rng = Rng::new(1);
-    let mut met = [0; 30];
+    let mut met = [0; 33];
     for _ in 0..20_000 {
         let mut now = case(&mut rng);
         let before = now.clone();
@@ -58,7 +58,7 @@ fn direct_calls_meet_every_answer_and_refusals_touch_nothing() {
     }
     println!("{met:?}");
     for code in CODES {
-        let direct = code == 0 || code >= 19 || [10, 12, 15].contains(&code);
+        let direct = (19..=29).contains(&code) || [0, 10, 12, 15].contains(&code);
         assert!(met[code as usize] >= 100 || !direct, "{code}: {met:?}");
         assert!(met[code as usize] == 0 || direct, "{code}: {met:?}");
     }
@@ -183,7 +183,21 @@ fn refusals_point_at_a_byte_that_their_code_names_and_meet_every_one_often() {
     }
 }
 
-/// What a request may change: one entry, and the record bytes it says it added.
+/// The slot that a step may change, if any: refusals and looks change none. Steps that set memory
+/// are left out.
+fn changed(step: &Step, said: &Said) -> Option<Option<usize>> {
+    match (step, said) {
+        (_, Said::Answer(answer)) if answer.code != 0 => Some(None),
+        (Step::Open { slot, .. } | Step::Close { slot, .. }, _) => Some(Some(*slot as usize)),
+        (Step::Submit { slot, .. }, _) => Some(Some(*slot as usize)),
+        (Step::Direct { slot, .. }, _) => Some(Some(*slot)),
+        (Step::Count | Step::Stored | Step::Show { .. } | Step::Bytes { .. }, _) => Some(None),
+        (Step::Check { .. } | Step::CheckAt { .. }, _) => Some(None),
+        _ => None,
+    }
+}
+
+/// What a request may change: one entry, the record bytes it says it added, the number by one.
 #[test]
 fn requests_change_only_what_they_name() {
     for seed in 100..110 {
@@ -192,28 +206,22 @@ fn requests_change_only_what_they_name() {
         for _ in 0..400 {
             let (step, said) = requests.next().expect("endless");
             let after = requests.replay().memory();
-            let slot = match (&step, &said) {
-                (_, Said::Answer(answer)) if answer.code != 0 => None,
-                (Step::Open { slot, .. } | Step::Close { slot, .. }, _) => Some(*slot as usize),
-                (Step::Submit { slot, .. }, _) => Some(*slot as usize),
-                (Step::Direct { slot, .. }, _) => Some(*slot),
-                (Step::Count | Step::Show { .. } | Step::Bytes { .. }, _) => None,
-                (Step::Check { .. } | Step::CheckAt { .. }, _) => None,
-                _ => {
-                    before = after.clone();
-                    continue;
-                }
+            let Some(slot) = changed(&step, &said) else {
+                before = after.clone();
+                continue;
             };
             let mut expected = before;
-            if let Some(slot) = slot {
-                let added = match said {
-                    Said::Answer(answer) => answer.second as usize,
-                    _ => 0,
-                };
+            if let (Some(slot), Said::Answer(answer)) = (slot, &said) {
+                let added = answer.second as usize;
                 let from =
                     AREA * slot + expected.table[slot].state.used as usize * usize::from(added > 0);
                 expected.records[from..][..added].copy_from_slice(&after.records[from..][..added]);
                 expected.table[slot] = after.table[slot];
+                match step {
+                    Step::Open { .. } => expected.stored += 1,
+                    Step::Close { .. } => expected.stored -= 1,
+                    _ => {}
+                }
             }
             assert!(expected == *after, "{step}");
             before = expected;

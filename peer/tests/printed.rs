@@ -125,6 +125,21 @@ fn lent_lengths_and_memory() {
 }
 
 #[test]
+fn the_stored_number_is_lent_to_open_and_close_alone() {
+    let script = format!(
+        "stored\nopen 0 1 {SHEET}\nstored\nset 1 9 1 {SHEET} 0 0 0 0 0 0 0 0 65535 0 0 1 0\n\
+         count\nstored\nstored 4294967295\nsubmit 0 1 1 C1\ndirect 0 C1\ncheck C1\nopen 2 1 {SHEET}\n\
+         close 0 1\nclose 3 1\nstored\nstored 0016\nclose 0 1\nstored\nlend 17 65536 1024\n\
+         open 2 1 {SHEET}\ncount\nstored\nlend 16 65536 1024\nfill 7\nwidths 1\nstored\nfresh\n\
+         stored\n"
+    );
+    let printed = "STORED 0\n0 0 0\nSTORED 1\nCOUNT 2\nSTORED 1\n0 1 17\n0 1 17\nCHECK 0\n\
+                   32 0 0\n32 0 0\n16 0 0\nSTORED 4294967295\n0 0 0\nSTORED 15\n10 0 0\n\
+                   COUNT 0\nSTORED 15\nSTORED 15\nSTORED 0\n";
+    assert_eq!(replayed(script.as_bytes()), printed);
+}
+
+#[test]
 fn widths_change_by_font_and_code_point() {
     let script = format!(
         "widths 10\nwidth 1 193 7\nopen 0 1 {SHEET}\ndirect 0 C1\ndirect 0 2BD303F001C1\n\

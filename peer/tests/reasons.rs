@@ -7,8 +7,8 @@ const D_NAMES: &str =
     "SIZE-I SIZE-B INITIAL-I INITIAL-B MARGIN INCREMENT ADJUSTMENT DIRECTION FONT COLOUR \
                        RULE HIDDEN";
 const FIRST: &str =
-    "widths, width, fill, fresh, lend, open, submit, close, count, direct, check, check-at, set, \
-     show, bytes";
+    "widths, width, fill, fresh, lend, open, submit, close, count, stored, direct, check, \
+     check-at, set, show, bytes";
 
 /// What stopped a script that has this as its second line.
 fn reason(line: &[u8]) -> String {
@@ -36,6 +36,7 @@ fn first_words() {
         ("Count", "\"Count\" is written count"),
         ("CHECK C1", "\"CHECK\" is written check"),
         ("Check-At 180 C1", "\"Check-At\" is written check-at"),
+        ("STORED 3", "\"STORED\" is written stored"),
         ("SUBMIT 0 1 1 C1", "\"SUBMIT\" is written submit"),
         ("fresh#", &format!("no line begins with \"fresh#\"; the first words are {FIRST}")),
     ]);
@@ -73,6 +74,8 @@ fn too_few_and_too_many_words() {
         ("check-at C1", "too few words, 2 and not 3: check-at N HEX"),
         ("check-at 180", "too few words, 2 and not 3: check-at N HEX"),
         ("check-at 180 2B D3", "too many words, 4 and not 3: check-at N HEX"),
+        ("stored 1 2", "too many words, 3 and not 1 or 2: stored, or stored N"),
+        ("stored N 1 2", "too many words, 4 and not 1 or 2: stored, or stored N"),
         ("open 0 1", &format!("too few words, 3 and not 15: open S K {D_NAMES}")),
         ("set 0", &format!("too few words, 2 and not 29: set S KEY OPEN {D_NAMES} {entry}")),
     ]);
@@ -98,6 +101,9 @@ fn numbers() {
         ("check-at C1 180", "word 2, N, is no number: \"C1\""),
         ("check-at -1 C1", "word 2, N, has a sign: -1; only I and B may have one, a minus"),
         ("check-at 4294967296 -", "word 2, N, is 4294967296; it may be 0 to 4294967295"),
+        ("stored x", "word 2, N, is no number: \"x\""),
+        ("stored -1", "word 2, N, has a sign: -1; only I and B may have one, a minus"),
+        ("stored 4294967296", "word 2, N, is 4294967296; it may be 0 to 4294967295"),
         ("widths 65536", "word 2, N, is 65536; it may be 0 to 65535"),
         ("width 4 0 0", "word 2, F, is 4; it may be 0 to 3"),
         ("width 0 256 0", "word 3, C, is 256; it may be 0 to 255"),

@@ -17,7 +17,7 @@ fn only(code: u32) -> Answer {
 #[test]
 fn open_in_order() {
     let mut desk = Desk::new();
-    assert_eq!(hub::open(&mut desk.table[..15], 16, 0, &BAD), only(10));
+    assert_eq!(hub::open(&mut desk.table[..15], &mut 0, 16, 0, &BAD), only(10));
     assert_eq!(desk.open(16, 0, &BAD), only(11));
     assert_eq!(desk.open(0, 0, &BAD), only(14));
     assert_eq!(desk.open(0, 0, &DESCRIPTOR), only(14));
@@ -102,7 +102,7 @@ fn submit_is_lent_exact_lengths() {
 #[test]
 fn close_in_order() {
     let mut desk = Desk::new();
-    assert_eq!(hub::close(&mut [], 16, 0), only(10));
+    assert_eq!(hub::close(&mut [], &mut 0, 16, 0), only(10));
     assert_eq!(desk.close(16, 0), only(11));
     assert_eq!(desk.close(0, 0), only(16));
     desk.open(0, 3, &DESCRIPTOR);
@@ -118,6 +118,7 @@ fn close_in_order() {
 fn an_entry_open_under_key_0_can_be_closed() {
     let mut desk = Desk::new();
     desk.table[0] = Entry::opened(0, &DESCRIPTOR);
+    desk.stored = 1;
     assert_eq!(desk.submit(0, 0, 1, &hex("C1")), answer(0, 1, 17));
     assert_eq!(desk.close(0, 0), only(0));
     assert_eq!(desk.close(0, 0), only(16));

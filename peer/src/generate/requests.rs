@@ -5,6 +5,7 @@ use super::ground::Ground;
 use super::numbers::{self, Reach};
 use super::parts;
 use super::rng::Rng;
+use super::stored;
 use crate::model::{Descriptor, Entry, AREA, RECORDS, SLOTS, WIDTHS};
 use crate::replay::{Peer, Replay, Said};
 use crate::script::{Lend, Step};
@@ -20,6 +21,8 @@ const RECENT: usize = 40;
 pub struct Requests {
     rng: Rng,
     reach: Reach,
+    /// Whether the stored number is left to the requests, so that it stays the count.
+    keeps: bool,
     replay: Replay<Peer>,
     recent: Vec<Step>,
     /// Steps decided on already, the next one last.
@@ -27,10 +30,12 @@ pub struct Requests {
 }
 
 impl Requests {
-    /// The sequence of a seed.
+    /// The sequence of a seed. One seed in three leaves the stored number to the requests.
     pub fn new(seed: u64, reach: Reach) -> Self {
+        let mut rng = Rng::new(seed);
+        let keeps = rng.chance(1, 3);
         let (recent, waiting) = (Vec::new(), Vec::new());
-        Self { rng: Rng::new(seed), reach, replay: Replay::new(Peer), recent, waiting }
+        Self { rng, reach, keeps, replay: Replay::new(Peer), recent, waiting }
     }
 
     /// This crate's hub as the steps so far have left it.
@@ -47,13 +52,30 @@ impl Requests {
         }
     }
 
+    /// A close or an open that is done beside the right number, if a few looks find one.
+    pub fn due(&mut self, closes: bool) -> Step {
+        let at = self.slot(|entry| entry.is_open() == closes && !entry.is_damaged());
+        let (slot, key) = (at as u32, self.entry(at).key);
+        if closes {
+            return Step::Close { slot, key };
+        }
+        let descriptor = numbers::descriptor(&mut self.rng);
+        Step::Open { slot, key: key.saturating_add(1), descriptor }
+    }
+
+    /// A stored number, mostly a wrong one.
+    pub fn store(&mut self) -> Step {
+        let walked = self.replay.memory().walked();
+        Step::Store(stored::number(&mut self.rng, walked))
+    }
+
     /// Does a step, as if the sequence had chosen it.
     pub fn make(&mut self, step: &Step) -> Said {
         self.remember(step);
         self.replay.step(step)
     }
 
-    /// Wrong lengths are lent for a few steps only.
+    /// Wrong lengths are lent, and wrong numbers stored, for a few steps only.
     fn choose(&mut self) -> Step {
         if let Some(step) = self.waiting.pop() {
             return step;
@@ -61,7 +83,11 @@ impl Requests {
         if self.replay.lend() != RIGHT && self.rng.chance(1, 5) {
             return Step::Lend(RIGHT);
         }
-        match self.rng.below(100) {
+        let walked = self.replay.memory().walked();
+        if self.replay.memory().stored != walked && self.rng.chance(1, 10) {
+            return Step::Store(walked);
+        }
+        match self.rng.below(106) {
             0..=42 => self.submit(),
             43 | 44 => self.swapped(),
             45..=59 => self.open(),
@@ -78,6 +104,8 @@ impl Requests {
             96 => Step::Widths(self.rng.pick(&[0, 0, 1, 20, 144, 144, 300, 4_000, 65_535])),
             97 => self.lend(),
             98 => self.repair(),
+            99..=103 if !self.keeps => self.stored(),
+            99..=104 => Step::Stored,
             _ if self.rng.chance(1, 4) => Step::Fresh,
             _ => Step::Fill(self.rng.byte()),
         }
@@ -192,6 +220,13 @@ impl Requests {
         Step::Close { slot: self.named(slot), key: self.key(key) }
     }
 
+    /// A stored number, and a request to which it matters.
+    fn stored(&mut self) -> Step {
+        let closes = self.rng.chance(1, 2);
+        self.waiting = vec![self.due(closes)];
+        self.store()
+    }
+
     fn direct(&mut self) -> Step {
         let slot = if self.rng.chance(4, 5) {
             self.slot(|entry| entry.descriptor != Descriptor::default())
@@ -221,6 +256,15 @@ impl Requests {
         if self.rng.chance(1, 4) {
             entry.mark = 0;
         }
+        self.placed(slot, entry)
+    }
+
+    /// An entry put in its slot; it stays open or closed where the stored number is to stay right.
+    fn placed(&self, slot: usize, mut entry: Entry) -> Step {
+        let was_open = self.entry(slot).is_open();
+        if self.keeps && entry.is_open() != was_open {
+            entry.mark = was_open.into();
+        }
         Step::Set { slot, entry }
     }
 
@@ -228,7 +272,8 @@ impl Requests {
     fn repair(&mut self) -> Step {
         let slot = self.slot(Entry::is_damaged);
         let key = self.entry(slot).key;
-        Step::Set { slot, entry: Entry { mark: 0, ..numbers::entry(&mut self.rng, key) } }
+        let entry = Entry { mark: 0, ..numbers::entry(&mut self.rng, key) };
+        self.placed(slot, entry)
     }
 
     /// A request sent again, some time later.

@@ -1,14 +1,15 @@
 //! The lines that a script can have: how each goes, and the step that it says.
 
 use super::bad::{shown, Bad};
-use super::words::Words;
+use super::words::{spelled, Words};
 use super::Step;
 use crate::model::{AREA, FONTS};
 
 type Read = fn(&mut Words<'_>) -> Result<Step, Bad>;
 
 /// The form of each line, and what reads the words after the first. D stands for twelve numbers.
-const LINES: [(&str, Read); 15] = [
+/// Forms that begin with the same word stand together, and no two have as many words.
+const LINES: [(&str, Read); 17] = [
     ("widths N", |words| Ok(Step::Widths(words.width()?))),
     ("width F C N", width),
     ("fill N", |words| Ok(Step::Fill(words.byte()?))),
@@ -18,6 +19,8 @@ const LINES: [(&str, Read); 15] = [
     ("submit S K N HEX", submit),
     ("close S K", |words| Ok(Step::Close { slot: words.long()?, key: words.long()? })),
     ("count", |_| Ok(Step::Count)),
+    ("stored N", |words| Ok(Step::Store(words.long()?))),
+    ("stored", |_| Ok(Step::Stored)),
     ("direct S HEX", |words| Ok(Step::Direct { slot: words.slot()?, part: words.bytes()? })),
     ("check HEX", |words| Ok(Step::Check { part: words.bytes()? })),
     ("check-at N HEX", |words| {
@@ -43,11 +46,30 @@ fn first(line: &str) -> &str {
 
 pub(super) fn parse(line: &str) -> Result<Step, Bad> {
     spaced(line)?;
-    let (form, read) = LINES
+    let found = length(line);
+    let alike: Vec<(String, Read)> = LINES
         .iter()
-        .find(|(form, _)| first(form) == first(line))
-        .ok_or_else(|| unknown(first(line)))?;
-    read(&mut Words::of(line, form)?)
+        .filter(|(form, _)| first(form) == first(line))
+        .map(|(form, read)| (spelled(form), *read))
+        .collect();
+    match alike.iter().find(|(form, _)| length(form) == found) {
+        Some((form, read)) => read(&mut Words::of(line, form)),
+        None if alike.is_empty() => Err(unknown(first(line))),
+        None => Err(unlike(found, alike.into_iter().map(|(form, _)| form).collect())),
+    }
+}
+
+fn length(line: &str) -> usize {
+    line.split(' ').count()
+}
+
+/// As many words as none of the forms that begin with the line's first word.
+fn unlike(found: usize, mut forms: Vec<String>) -> Bad {
+    forms.sort_by_key(|form| length(form));
+    let fault = if forms.iter().all(|form| found < length(form)) { "few" } else { "many" };
+    let belong: Vec<String> = forms.iter().map(|form| length(form).to_string()).collect();
+    let (belong, forms) = (belong.join(" or "), forms.join(", or "));
+    Bad(format!("too {fault} words, {found} and not {belong}: {forms}"))
 }
 
 /// Between two words stands one space, and none at an end.
@@ -73,7 +95,8 @@ fn spaced(line: &str) -> Result<(), Bad> {
 /// A first word that no line has; other case is the likeliest slip.
 fn unknown(word: &str) -> Bad {
     let shown = shown(word.as_bytes());
-    let firsts: Vec<&str> = forms().map(first).collect();
+    let mut firsts: Vec<&str> = forms().map(first).collect();
+    firsts.dedup();
     match firsts.iter().find(|first| first.eq_ignore_ascii_case(word)) {
         Some(first) => Bad(format!("\"{shown}\" is written {first}")),
         None => Bad(format!(

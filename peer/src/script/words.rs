@@ -8,28 +8,26 @@ use crate::model::{kept, Descriptor, Entry, State, GREATEST_POSITION, LEAST_POSI
 const D: &str = "SIZE-I SIZE-B INITIAL-I INITIAL-B MARGIN INCREMENT ADJUSTMENT DIRECTION FONT \
                  COLOUR RULE HIDDEN";
 
+/// A form with the names of its descriptor's numbers.
+pub(super) fn spelled(form: &str) -> String {
+    let names: Vec<_> = form.split(' ').map(|name| if name == "D" { D } else { name }).collect();
+    names.join(" ")
+}
+
 /// The words of a line that are still to be read, and the form that names them.
 pub(super) struct Words<'a> {
-    form: String,
+    form: &'a str,
     /// Words read so far.
     read: usize,
     left: std::str::Split<'a, char>,
 }
 
 impl<'a> Words<'a> {
-    /// The words after the first; a line has as many as its form.
-    pub(super) fn of(line: &'a str, form: &str) -> Result<Self, Bad> {
-        let names: Vec<_> =
-            form.split(' ').map(|name| if name == "D" { D } else { name }).collect();
-        let form = names.join(" ");
-        let (found, belong) = (line.split(' ').count(), form.split(' ').count());
-        if found != belong {
-            let fault = if found < belong { "few" } else { "many" };
-            return Err(Bad(format!("too {fault} words, {found} and not {belong}: {form}")));
-        }
+    /// The words after the first; a line has as many as its form, which is spelled.
+    pub(super) fn of(line: &'a str, form: &'a str) -> Self {
         let mut words = Self { form, read: 0, left: line.split(' ') };
         words.next();
-        Ok(words)
+        words
     }
 
     fn next(&mut self) -> &'a str {

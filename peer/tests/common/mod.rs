@@ -28,6 +28,7 @@ pub fn answer(code: u32, first: u32, second: u32) -> Answer {
 /// Fresh memory of the right lengths.
 pub struct Desk {
     pub table: Vec<Entry>,
+    pub stored: u32,
     pub records: Vec<u8>,
     pub widths: Vec<u16>,
 }
@@ -36,6 +37,7 @@ impl Desk {
     pub fn new() -> Self {
         Self {
             table: vec![Entry::FRESH; SLOTS],
+            stored: 0,
             records: vec![0; RECORDS],
             widths: vec![144; WIDTHS],
         }
@@ -49,7 +51,7 @@ impl Desk {
     }
 
     pub fn open(&mut self, slot: u32, key: u32, descriptor: &Descriptor) -> Answer {
-        hub::open(&mut self.table, slot, key, descriptor)
+        hub::open(&mut self.table, &mut self.stored, slot, key, descriptor)
     }
 
     pub fn submit(&mut self, slot: u32, key: u32, number: u32, part: &[u8]) -> Answer {
@@ -58,7 +60,7 @@ impl Desk {
     }
 
     pub fn close(&mut self, slot: u32, key: u32) -> Answer {
-        hub::close(&mut self.table, slot, key)
+        hub::close(&mut self.table, &mut self.stored, slot, key)
     }
 
     /// The next part of slot 0's job.
