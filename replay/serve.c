@@ -6,8 +6,8 @@
 
 #include "halviruso.h"
 
-/* Where each lent slice stands in the file; src/proved.rs has the same numbers. */
-enum { TABLE = 0, RECORDS = 4096, WIDTHS = 73728, PART = 77824, SPAN = 1 << 28 };
+/* Where each lent slice, and the stored number of open jobs, stands in the file; src/proved.rs has the same numbers. */
+enum { TABLE = 0, RECORDS = 4096, NUMBER = 73728, WIDTHS = 77824, PART = 81920, SPAN = 1 << 28 };
 
 enum { FRESH, OPEN, SUBMIT, CLOSE, COUNT, INTERPRET, CHECK, CHECK_AT };
 
@@ -21,19 +21,20 @@ typedef struct question {
 static halviruso_interpreted answer(unsigned char *at, const question *q) {
     halviruso_interpreted reply = {0};
     halviruso_entry *table = (halviruso_entry *)(at + TABLE);
+    uint32_t *open_jobs = (uint32_t *)(at + NUMBER);
     const uint16_t *widths = (const uint16_t *)(at + WIDTHS);
     switch (q->what) {
     case FRESH:
         *(halviruso_table *)table = halviruso_fresh();
         break;
     case OPEN:
-        reply.answer = halviruso_open(table, q->table, q->slot, q->key, q->descriptor);
+        reply.answer = halviruso_open(table, q->table, open_jobs, q->slot, q->key, q->descriptor);
         break;
     case SUBMIT:
         reply.answer = halviruso_submit(table, q->table, at + RECORDS, q->records, widths, q->widths, q->slot, q->key, q->number, at + PART, q->part);
         break;
     case CLOSE:
-        reply.answer = halviruso_close(table, q->table, q->slot, q->key);
+        reply.answer = halviruso_close(table, q->table, open_jobs, q->slot, q->key);
         break;
     case COUNT:
         reply.answer.code = halviruso_count(table, q->table);

@@ -24,11 +24,12 @@ use crate::words::{
     ENTRY, FIELDS, REPLY,
 };
 
-// Where each lent slice stands in the file; serve.c has the same numbers.
+// Where each lent slice, and the stored number of open jobs, stands in the file; serve.c has the same numbers.
 const TABLE: u64 = 0;
 const RECORDS: u64 = 4_096;
-const WIDTHS: u64 = 73_728;
-const PART: u64 = 77_824;
+const NUMBER: u64 = 73_728;
+const WIDTHS: u64 = 77_824;
+const PART: u64 = 81_920;
 const SPAN: u64 = 1 << 28;
 
 const FRESH: u32 = 0;
@@ -139,6 +140,21 @@ impl Served {
         Ok(answer_of(&reply))
     }
 
+    /// A request that is lent the stored number of open jobs as well.
+    fn counted(
+        &mut self,
+        table: &mut [Entry],
+        stored: &mut u32,
+        question: Question,
+    ) -> io::Result<Answer> {
+        self.file.write_all_at(&bytes_of(&[*stored]), NUMBER)?;
+        let answer = self.request(table, question)?;
+        let mut bytes = [0; 4];
+        self.file.read_exact_at(&mut bytes, NUMBER)?;
+        [*stored] = words_of(&bytes);
+        Ok(answer)
+    }
+
     fn submit(&mut self, lent: Lent<'_>, part: &[u8], question: Question) -> io::Result<Answer> {
         let Lent { table, records, widths } = lent;
         self.file.write_all_at(records, RECORDS)?;
@@ -228,9 +244,16 @@ impl Backend for Proved {
         table
     }
 
-    fn open(&mut self, table: &mut [Entry], slot: u32, key: u32, d: &Descriptor) -> Answer {
+    fn open(
+        &mut self,
+        table: &mut [Entry],
+        stored: &mut u32,
+        slot: u32,
+        key: u32,
+        d: &Descriptor,
+    ) -> Answer {
         let question = Question { what: OPEN, slot, key, descriptor: *d, ..Question::default() };
-        here(self.0.borrow_mut().request(table, question))
+        here(self.0.borrow_mut().counted(table, stored, question))
     }
 
     fn submit(&mut self, lent: Lent<'_>, slot: u32, key: u32, number: u32, part: &[u8]) -> Answer {
@@ -238,9 +261,9 @@ impl Backend for Proved {
         here(self.0.borrow_mut().submit(lent, part, question))
     }
 
-    fn close(&mut self, table: &mut [Entry], slot: u32, key: u32) -> Answer {
+    fn close(&mut self, table: &mut [Entry], stored: &mut u32, slot: u32, key: u32) -> Answer {
         let question = Question { what: CLOSE, slot, key, ..Question::default() };
-        here(self.0.borrow_mut().request(table, question))
+        here(self.0.borrow_mut().counted(table, stored, question))
     }
 
     fn count(&mut self, table: &[Entry]) -> u32 {
