@@ -22,9 +22,10 @@ impl Codes {
         self.0.values().sum()
     }
 
-    /// The codes of document 01 that were no answer.
+    /// The codes of the papers that were no answer.
     pub fn missing(&self) -> Vec<u32> {
-        [0, 1].into_iter().chain(10..=29).filter(|code| !self.0.contains_key(code)).collect()
+        let codes = [0, 1].into_iter().chain(10..=29).chain([32]);
+        codes.filter(|code| !self.0.contains_key(code)).collect()
     }
 }
 

@@ -39,6 +39,7 @@ impl Difference {
                 lines += &(line + "\n");
             }
         }
+        let _ = writeln!(lines, "{}", Step::Stored);
         for slot in 0..SLOTS {
             let _ = writeln!(lines, "{}", Step::Show { slot });
             let _ = writeln!(lines, "{}", Step::Bytes { slot, from: 0, to: AREA });

@@ -1,12 +1,15 @@
 //! Hubs with one thing wrong, which the tests have to find.
 
+mod number;
+mod parts;
+
 use peer::hub::Lent;
 use peer::model::{AREA, GREATEST_DISTANCE, LONGEST_PART, SLOTS};
-use peer::reader::{read, Element, CHAIN, DBR, DIR, SIA, STO};
-use peer::record::HEADER;
 use peer::replay::Backend;
 use peer::sheet::{self, SIX_LINES, WIDTHS_144};
 use peer::{Answer, Code, Descriptor, Entry, State};
+
+use parts::{is_second, no_room};
 
 /// What is wrong, and which test is to find it.
 #[derive(Clone, Copy, Debug, PartialEq, Eq)]
@@ -30,13 +33,27 @@ pub enum Fault {
     CheckDefault,
     CheckOrder,
     CheckBound,
+    OpenAtSixteen,
+    CloseAtSeventeen,
+    CloseAtNone,
+    StoredCut,
+    StoredWalked,
+    StoredEarly,
+    RefusalStores,
+    OpenBusy,
+    OpenNotAtFifteen,
+    CloseUncounted,
+    CloseNotAtSixteen,
     Order,
+    StoredOrder,
     Retaken,
     Reclosed,
+    Recounted,
+    StoredFirst,
 }
 
 /// Every fault, its name for `--break`, and the test that is to find it.
-pub const FAULTS: [(Fault, &str, &str); 22] = [
+pub const FAULTS: [(Fault, &str, &str); 36] = [
     (Fault::FreshKey, "fresh-key", "requests"),
     (Fault::OpenKey, "open-key", "requests"),
     (Fault::CloseForgets, "close-forgets", "requests"),
@@ -56,9 +73,23 @@ pub const FAULTS: [(Fault, &str, &str); 22] = [
     (Fault::CheckDefault, "check-default", "parts"),
     (Fault::CheckOrder, "check-order", "parts"),
     (Fault::CheckBound, "check-bound", "parts"),
+    (Fault::OpenAtSixteen, "open-at-16", "requests"),
+    (Fault::CloseAtSeventeen, "close-at-17", "requests"),
+    (Fault::CloseAtNone, "close-at-0", "requests"),
+    (Fault::StoredCut, "stored-cut", "requests"),
+    (Fault::StoredWalked, "stored-walked", "requests"),
+    (Fault::StoredEarly, "stored-early", "requests"),
+    (Fault::RefusalStores, "refusal-stores", "requests"),
+    (Fault::OpenBusy, "open-busy", "stored"),
+    (Fault::OpenNotAtFifteen, "open-not-at-15", "stored"),
+    (Fault::CloseUncounted, "close-uncounted", "stored"),
+    (Fault::CloseNotAtSixteen, "close-not-at-16", "stored"),
     (Fault::Order, "order", "swap"),
+    (Fault::StoredOrder, "stored-order", "swap"),
     (Fault::Retaken, "retaken", "repeat"),
     (Fault::Reclosed, "reclosed", "repeat"),
+    (Fault::Recounted, "recounted", "repeat"),
+    (Fault::StoredFirst, "stored-first", "repeat"),
 ];
 
 /// A hub with a fault.
@@ -87,8 +118,18 @@ impl<B: Backend> Backend for Broken<B> {
         table
     }
 
-    fn open(&mut self, table: &mut [Entry], slot: u32, key: u32, d: &Descriptor) -> Answer {
-        let answer = self.hub.open(table, slot, key, d);
+    fn open(
+        &mut self,
+        table: &mut [Entry],
+        stored: &mut u32,
+        slot: u32,
+        key: u32,
+        d: &Descriptor,
+    ) -> Answer {
+        let sees = number::open_sees(self.fault, *stored, table);
+        let ask = |seen: &mut u32| self.hub.open(&mut *table, seen, slot, key, d);
+        let mut answer = number::asked(stored, sees, ask);
+        number::opened(self.fault, &mut answer, stored, table, self.before > slot);
         if answer.is_done() && self.is(Fault::OpenKey) {
             table[slot as usize].key = key.wrapping_add(1);
         }
@@ -127,8 +168,11 @@ impl<B: Backend> Backend for Broken<B> {
         answer
     }
 
-    fn close(&mut self, table: &mut [Entry], slot: u32, key: u32) -> Answer {
-        let answer = self.hub.close(table, slot, key);
+    fn close(&mut self, table: &mut [Entry], stored: &mut u32, slot: u32, key: u32) -> Answer {
+        let sees = number::close_sees(self.fault, *stored, table);
+        let ask = |seen: &mut u32| self.hub.close(&mut *table, seen, slot, key);
+        let mut answer = number::asked(stored, sees, ask);
+        number::closed(self.fault, &mut answer, stored, table);
         if answer.is_done() && self.is(Fault::CloseForgets) {
             table[slot as usize].key = 0;
         }
@@ -190,47 +234,5 @@ impl<B: Backend> Backend for Broken<B> {
             }
             _ => self.hub.check_at(part, increment),
         }
-    }
-}
-
-/// Whether the value at fault is its sequence's second: LENGTH, TYPE and the first stand before it.
-fn is_second(part: &[u8], answer: Answer) -> bool {
-    let before = part.get(..answer.first as usize).and_then(<[u8]>::last_chunk);
-    let second = before.is_some_and(|&[length, kind, _, _]| {
-        [(5, SIA), (6, STO), (7, DIR), (7, DBR)].contains(&(length, kind & !CHAIN))
-    });
-    second && answer.code == Code::Value as u32
-}
-
-/// Where a rule with no ink finds the area full, which is nothing to it, in an accepted part.
-fn no_room(part: &[u8], entry: &Entry) -> Option<usize> {
-    let Entry { descriptor, state, .. } = entry;
-    // Where rules may be hidden they may need no room in any hub.
-    if state.used as usize + HEADER <= AREA || descriptor.hidden != 0 {
-        return None;
-    }
-    let (mut start, mut chained) = (0, state.chain != 0);
-    while start < part.len() {
-        let (element, size) = read(&part[start..], chained).ok()?;
-        chained = match element {
-            Element::FreeRun(_) => false,
-            Element::Sequence { function: DIR | DBR, parameters, .. }
-                if !has_ink(parameters.bytes, descriptor) =>
-            {
-                return Some(start);
-            }
-            Element::Sequence { chains, .. } => chains,
-        };
-        start += size;
-    }
-    None
-}
-
-/// Whether neither the length of an accepted rule nor its width is 0.
-fn has_ink(parameters: &[u8], d: &Descriptor) -> bool {
-    match *parameters {
-        [0, 0, ..] => false,
-        [_, _, 0, width, 0] => width != 0,
-        _ => d.rule != 0,
     }
 }

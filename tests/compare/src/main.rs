@@ -1,4 +1,5 @@
-//! The proved library against the peer: parts, requests, scripts; swap and repeat on the library's own memory.
+//! The proved library against the peer: parts, requests, scripts; swap, repeat and the stored number on the library's
+//! own memory.
 //!
 //! Without arguments it runs fixed seeds and is the gate's; `--seconds N` goes on from a new seed;
 //! `--break NAME` runs a hub with a fault. The first difference is left as a replay script. The
@@ -12,12 +13,14 @@ mod difference;
 mod document;
 mod documented;
 mod faults;
+mod history;
 mod options;
 mod parts;
 mod progress;
 mod repeat;
 mod requests;
 mod scripts;
+mod stored;
 mod suite;
 mod swap;
 

@@ -1,40 +1,45 @@
-//! An accepted request sent again at any later time: no byte changes, and the answer says so.
+//! An accepted request sent again at any later time, beside any stored number: no byte changes, and the answer says so.
 
 use std::collections::BTreeMap;
 
-use peer::generate::{Reach, Requests, Rng};
+use peer::generate::{Reach, Rng};
 use peer::replay::{Backend, Replay, Said};
 use peer::script::Step;
 use peer::{Code, Entry};
 
 use crate::difference::Difference;
+use crate::history::History;
 
 /// Requests of one seed.
 pub const REQUESTS: usize = 150;
 
-/// How often each kind of request was repeated with which code.
-pub type Repeated = BTreeMap<(&'static str, u32), u64>;
+/// What the repeats of some seeds came to.
+#[derive(Clone, Debug, Default)]
+pub struct Repeated {
+    /// How often each kind of request was repeated with which code.
+    pub answers: BTreeMap<(&'static str, u32), u64>,
+    /// Repeats beside a stored number that wasn't the walked count.
+    pub wrong: u64,
+}
 
-/// Repeats accepted requests of one seed; only requests change its memory.
+/// Repeats accepted requests of one seed; only requests and stored numbers change its memory.
 pub fn compare<B: Backend + Clone>(
     hub: &B,
     seed: u64,
     repeated: &mut Repeated,
 ) -> Result<(), Difference> {
     let mut rng = Rng::new(seed);
-    let mut requests = Requests::new(seed, Reach::Script);
-    let mut tried = Replay::new(hub.clone());
-    let mut steps = vec![Step::Fill(rng.byte()), Step::Widths(rng.pick(&[0, 20, 144]))];
-    for step in &steps {
-        requests.make(step);
-        tried.step(step);
-    }
+    let mut history = History::new(hub, seed, Reach::Script);
+    history.make(Step::Fill(rng.byte()));
+    history.make(Step::Widths(rng.pick(&[0, 20, 144])));
+    let keeps = rng.chance(1, 2);
     let mut accepted: Vec<Step> = Vec::new();
     for _ in 0..REQUESTS {
-        let step = requests.request();
-        requests.make(&step);
-        let said = tried.step(&step);
-        steps.push(step.clone());
+        if !keeps && rng.chance(1, 6) {
+            store(&mut history);
+        }
+        let step = history.requests.request();
+        let said = history.make(step.clone());
         if matches!(said, Said::Answer(answer) if answer.is_done()) {
             accepted.push(step);
         }
@@ -43,13 +48,20 @@ pub fn compare<B: Backend + Clone>(
                 break;
             }
             let again = accepted[rng.size(accepted.len())].clone();
-            if let Err(what) = repeat(&mut tried, &again, repeated) {
-                steps.push(again);
-                return Err(Difference { test: "repeat", seed, what, steps });
+            if let Err(what) = repeat(&mut history.tried, &again, repeated) {
+                history.steps.push(again);
+                return Err(history.difference("repeat", seed, what));
             }
         }
     }
     Ok(())
+}
+
+/// Another number is stored, or the right one again.
+fn store<B: Backend + Clone>(history: &mut History<B>) {
+    let (stored, walked) = (history.memory().stored, history.memory().walked());
+    let step = if stored == walked { history.requests.store() } else { Step::Store(walked) };
+    history.make(step);
 }
 
 /// Sends an accepted request again; what is wrong, in words.
@@ -70,7 +82,8 @@ fn repeat<B: Backend>(
     if *tried.memory() != before {
         return Err("the last request, accepted before, changes memory".to_string());
     }
-    *repeated.entry((kind, code)).or_default() += 1;
+    *repeated.answers.entry((kind, code)).or_default() += 1;
+    repeated.wrong += u64::from(before.stored != before.walked());
     Ok(())
 }
 

@@ -14,7 +14,7 @@ const OPEN: &str = "open 0 1 12240 15840 0 0 0 240 0 0 0 65287 14 0\n";
 const SET: &str = "set 0 1 1 9 9 0 0 0 0 0 0 0 0 0 0";
 
 /// Lines that are bad, and end a run.
-const BAD: [&str; 38] = [
+const BAD: [&str; 45] = [
     " ",
     "bad",
     "Count",
@@ -45,6 +45,13 @@ const BAD: [&str; 38] = [
     "check-at C1",
     "check-at -1 C1",
     "check-at 4294967296 C1",
+    "Stored",
+    "stored -1",
+    "stored +0",
+    "stored 4294967296",
+    "stored 1 2",
+    "stored -",
+    "stored ",
     "bytes 0 1 0",
     "bytes 0 0 4097",
     "widths 65536",
@@ -61,6 +68,29 @@ fn checks() -> String {
     format!("check {part}\ncheck-at 32767 {part}\ncheck-at 32768 {part}\n")
 }
 
+/// The stored number, said and met; a number may have zeros before it.
+fn stored() -> [(String, &'static str); 5] {
+    [
+        (
+            "stored\nstored 4294967295\nstored\nfresh\nstored\n".to_string(),
+            "STORED 0\nSTORED 4294967295\nSTORED 0\n",
+        ),
+        (
+            format!("stored 0015\n{OPEN}stored\nclose 0 1\nstored\n"),
+            "0 0 0\nSTORED 16\n0 0 0\nSTORED 15\n",
+        ),
+        (format!("stored 16\n{OPEN}stored\n"), "32 0 0\nSTORED 16\n"),
+        (
+            format!("stored 4294967295\n{OPEN}close 0 1\nstored\n"),
+            "32 0 0\n16 0 0\nSTORED 4294967295\n",
+        ),
+        (
+            format!("{OPEN}stored 0\nclose 0 1\nstored 17\nclose 0 1\nstored\n"),
+            "0 0 0\n32 0 0\n32 0 0\nSTORED 17\n",
+        ),
+    ]
+}
+
 /// Scripts and what they print.
 fn rows() -> Vec<(Vec<u8>, String)> {
     let row = |script: &str, out: &str| (script.as_bytes().to_vec(), out.to_string());
@@ -68,6 +98,7 @@ fn rows() -> Vec<(Vec<u8>, String)> {
         .iter()
         .map(|line| row(&format!("count\n{line}\ncount\n"), "COUNT 0\nBAD LINE 2\n"))
         .collect();
+    rows.extend(stored().iter().map(|(script, out)| row(script, out)));
     rows.extend([
         row("", ""),
         row("\n\n# any words\n#\ncount\n", "COUNT 0\n"),

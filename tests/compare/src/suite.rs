@@ -12,19 +12,23 @@ use crate::difference::{differ, shrink, Difference, SCRIPT};
 use crate::faults::{Broken, Fault, FAULTS};
 use crate::progress::Progress;
 use crate::repeat::Repeated;
+use crate::stored::Counted;
 use crate::swap::Swapped;
-use crate::{documented, parts, repeat, requests, scripts, swap};
+use crate::{documented, parts, repeat, requests, scripts, stored, swap};
 
 /// Seeds of the gate's requests; 400 steps each.
-const REQUEST_SEEDS: u64 = 640;
+const REQUEST_SEEDS: u64 = 700;
 /// Seeds of the gate's other tests.
 const SCRIPT_SEEDS: u64 = 40;
 const SWAP_SEEDS: u64 = 60;
 const REPEAT_SEEDS: u64 = 60;
+const STORED_SEEDS: u64 = 80;
 /// Fewer comparisons than this are too few.
 const LEAST: u64 = 200_000;
 /// Fewer swaps and repeats than this, of those that say something, are too few.
 const LEAST_TOLD: u64 = 2_000;
+/// Fewer of the rarer cases are too few.
+const LEAST_RARE: u64 = 300;
 /// Seeds in which a fault has to be found.
 const FAULT_SEEDS: u64 = 4_000;
 
@@ -93,6 +97,7 @@ impl Suite {
         self.histogram(&codes);
         self.swap(1..=SWAP_SEEDS);
         self.repeat(1..=REPEAT_SEEDS);
+        self.stored(1..=STORED_SEEDS);
         self.faults();
     }
 
@@ -145,7 +150,7 @@ impl Suite {
         let told = ran
             .and_then(|()| enough("requests", requests, LEAST))
             .and_then(|()| complete(&codes))
-            .map(|()| format!("{requests} requests: same answers, tables and record buffers"));
+            .map(|()| format!("{requests} requests: same answers, tables, numbers and records"));
         all.join(&codes);
         self.tell(told, since);
     }
@@ -153,40 +158,71 @@ impl Suite {
     fn histogram(&mut self, codes: &Codes) {
         let since = Instant::now();
         print!("answers by code\n{codes}");
-        self.tell(complete(codes).map(|()| "every code of 0, 1, 10 to 29 met".to_string()), since);
+        self.tell(
+            complete(codes).map(|()| "every code of 0, 1, 10 to 29, 32 met".to_string()),
+            since,
+        );
     }
 
     fn swap(&mut self, seeds: impl IntoIterator<Item = u64>) {
         let since = Instant::now();
         let mut sum = Swapped::default();
         let ran = seeds.into_iter().try_for_each(|seed| {
-            let swapped = swap::compare(&self.hub, seed)?;
-            sum.pairs += swapped.pairs;
-            sum.accepted += swapped.accepted;
+            sum.join(swap::compare(&self.hub, seed)?);
             Ok(())
         });
-        let Swapped { pairs, accepted } = sum;
+        let Swapped { pairs, accepted, counted } = sum;
         let told = ran
             .map_err(|difference| self.reported(difference))
             .and_then(|()| enough("swaps of two accepted requests", accepted, LEAST_TOLD))
+            .and_then(|()| enough("swaps without a submit", counted, LEAST_RARE))
             .map(|()| {
-                format!("{pairs} swaps, {accepted} of two accepted requests: nothing differs")
+                format!(
+                    "{pairs} swaps, {accepted} of two accepted requests, {counted} of these \
+                     without a submit: nothing differs"
+                )
             });
         self.tell(told, since);
     }
 
     fn repeat(&mut self, seeds: impl IntoIterator<Item = u64>) {
         let since = Instant::now();
-        let mut repeated = Repeated::new();
+        let mut repeated = Repeated::default();
         let ran = seeds
             .into_iter()
             .try_for_each(|seed| repeat::compare(&self.hub, seed, &mut repeated))
             .map_err(|difference| self.reported(difference));
-        let times: u64 = repeated.values().sum();
+        let Repeated { answers, wrong } = repeated;
+        let times: u64 = answers.values().sum();
         let told = ran
             .and_then(|()| enough("repeats", times, LEAST_TOLD))
-            .and_then(|()| enough("kinds of acknowledgement", repeated.len() as u64, 7))
-            .map(|()| format!("{times} repeats change nothing, answered {repeated:?}"));
+            .and_then(|()| enough("repeats beside a wrong number", wrong, LEAST_TOLD))
+            .and_then(|()| enough("kinds of acknowledgement", answers.len() as u64, 7))
+            .map(|()| {
+                format!(
+                    "{times} repeats, {wrong} beside a wrong number, change nothing, answered \
+                     {answers:?}"
+                )
+            });
+        self.tell(told, since);
+    }
+
+    fn stored(&mut self, mut seeds: impl Iterator<Item = u64>) {
+        let since = Instant::now();
+        let mut counted = Counted::default();
+        let ran = seeds
+            .try_for_each(|seed| stored::compare(&self.hub, seed, &mut counted))
+            .map_err(|difference| self.reported(difference));
+        let Counted { requests, full, none } = counted;
+        let told = ran
+            .and_then(|()| enough("requests that leave all slots open", full, LEAST_RARE))
+            .and_then(|()| enough("requests that leave none open", none, LEAST_RARE))
+            .map(|()| {
+                format!(
+                    "{requests} requests from fresh starts, {full} leaving all slots open: the \
+                     stored number is the count"
+                )
+            });
         self.tell(told, since);
     }
 
@@ -255,7 +291,8 @@ impl Suite {
         requests::compare(&self.hub, round, requests::STEPS, codes)?;
         scripts::compare(&self.hub, round)?;
         swap::compare(&self.hub, round)?;
-        repeat::compare(&self.hub, round, &mut Repeated::new())
+        stored::compare(&self.hub, round, &mut Counted::default())?;
+        repeat::compare(&self.hub, round, &mut Repeated::default())
     }
 }
 
@@ -282,7 +319,8 @@ fn found<B: Backend + Clone>(hub: &B, test: &str, real: &[Vec<u8>]) -> Option<Di
             "requests" => requests::compare(hub, seed, 100, &mut codes),
             "parts" => parts::compare(hub, seed, real, &mut codes),
             "swap" => swap::compare(hub, seed).map(drop),
-            _ => repeat::compare(hub, seed, &mut Repeated::new()),
+            "stored" => stored::compare(hub, seed, &mut Counted::default()),
+            _ => repeat::compare(hub, seed, &mut Repeated::default()),
         }
         .err()
     })

@@ -1,10 +1,12 @@
-//! Two requests on different slots, in either order from equal memory: the same answers and the same memory.
+//! Two requests on different slots, in either order from equal memory whose stored number is the walked count: the
+//! same answers and the same memory, that number with it.
 
 use peer::generate::{Reach, Requests};
-use peer::replay::{Backend, Replay, Said};
+use peer::replay::{Backend, Said};
 use peer::script::Step;
 
 use crate::difference::Difference;
+use crate::history::History;
 
 /// Pairs of one seed.
 pub const PAIRS: usize = 100;
@@ -15,57 +17,75 @@ pub struct Swapped {
     pub pairs: u64,
     /// Pairs of which both were accepted, so that both changed memory.
     pub accepted: u64,
+    /// Of those the ones without a submit, so that both changed the stored number.
+    pub counted: u64,
+}
+
+impl Swapped {
+    fn add(&mut self, pair: [(&Step, &Said); 2]) {
+        let accepted = pair.iter().all(|(_, said)| is_done(said));
+        let counted = !pair.iter().any(|(step, _)| matches!(step, Step::Submit { .. }));
+        self.pairs += 1;
+        self.accepted += u64::from(accepted);
+        self.counted += u64::from(accepted && counted);
+    }
+
+    pub fn join(&mut self, other: Self) {
+        self.pairs += other.pairs;
+        self.accepted += other.accepted;
+        self.counted += other.counted;
+    }
 }
 
 /// Swaps the pairs of one seed, with other steps between them.
 pub fn compare<B: Backend + Clone>(hub: &B, seed: u64) -> Result<Swapped, Difference> {
-    let mut requests = Requests::new(seed, Reach::Memory);
-    let mut tried = Replay::new(hub.clone());
-    let mut steps: Vec<Step> = Vec::new();
+    let mut history = History::new(hub, seed, Reach::Memory);
     let mut swapped = Swapped::default();
     for at in 0..PAIRS {
-        for _ in 0..at % 4 {
-            let Some((step, _)) = requests.next() else { break };
-            tried.step(&step);
-            steps.push(step);
-        }
-        let (first, second) = pair(&mut requests, at % 3 > 0);
-        let (mut forth, mut back) = (tried.clone(), tried);
-        let (one, two) = (forth.step(&first), forth.step(&second));
+        history.go_on(at % 4);
+        mend(&mut history);
+        let (first, second) = pair(&mut history.requests, at);
+        let mut back = history.tried.clone();
         let (other_two, other_one) = (back.step(&second), back.step(&first));
-        swapped.pairs += 1;
-        swapped.accepted += u64::from(is_done(&one) && is_done(&two));
-        let same = one == other_one && two == other_two && forth.memory() == back.memory();
-        for step in [&first, &second] {
-            requests.make(step);
-        }
-        steps.extend([first, second]);
-        if !same {
+        let (one, two) = (history.make(first.clone()), history.make(second.clone()));
+        swapped.add([(&first, &one), (&second, &two)]);
+        if one != other_one || two != other_two || history.memory() != back.memory() {
             let what = format!(
                 "the last two requests: in this order {one:?} {two:?}, in the other {other_one:?} {other_two:?}"
             );
-            return Err(Difference { test: "swap", seed, what, steps });
+            return Err(history.difference("swap", seed, what));
         }
-        tried = forth;
     }
     Ok(swapped)
 }
 
-/// Two requests on different slots; if `accepted`, such as the peer would accept, if a few looks find them.
-fn pair(requests: &mut Requests, accepted: bool) -> (Step, Step) {
-    let first = request(requests, accepted);
+/// The stored number becomes the walked count, if it isn't.
+fn mend<B: Backend + Clone>(history: &mut History<B>) {
+    let (stored, walked) = (history.memory().stored, history.memory().walked());
+    if stored != walked {
+        history.make(Step::Store(walked));
+    }
+}
+
+/// Two requests on different slots; every sixth pair is of closes and opens, by turns.
+fn pair(requests: &mut Requests, at: usize) -> (Step, Step) {
+    let first = request(requests, at, (at / 6).is_multiple_of(2));
     loop {
-        let second = request(requests, accepted);
+        let second = request(requests, at, (at / 12).is_multiple_of(2));
         if slot(&second) != slot(&first) {
             return (first, second);
         }
     }
 }
 
-fn request(requests: &mut Requests, accepted: bool) -> Step {
+/// Every third is any; the others are such as the peer would accept, if a few looks find them.
+fn request(requests: &mut Requests, at: usize, closes: bool) -> Step {
+    if at % 6 == 5 {
+        return requests.due(closes);
+    }
     let mut step = requests.request();
     for _ in 0..4 {
-        if !accepted || is_done(&requests.replay().clone().step(&step)) {
+        if at.is_multiple_of(3) || is_done(&requests.replay().clone().step(&step)) {
             break;
         }
         step = requests.request();
