@@ -3,28 +3,18 @@
  * The proofs speak of the library's side of it; that C's side is the same is tested here.
  */
 #define _DEFAULT_SOURCE
-#include "halviruso.h"
+#include "check.h"
 
-#include <stdio.h>
 #include <string.h>
 #include <sys/mman.h>
-
-static unsigned checks, wrong;
-
-#define CHECK(what)                                    \
-    do {                                               \
-        checks++;                                      \
-        if (!(what)) {                                 \
-            wrong++;                                   \
-            printf("line %d: %s\n", __LINE__, #what);  \
-        }                                              \
-    } while (0)
 
 /* What is lent stands between guards, which no call may touch. */
 static struct {
     uint8_t before[256];
     halviruso_table table;
     uint8_t between[256];
+    uint32_t open_jobs;
+    uint8_t beside[256];
     uint8_t records[HALVIRUSO_RECORDS];
     uint8_t behind[256];
 } lent, kept;
@@ -36,16 +26,12 @@ static const halviruso_descriptor UNLIKE = {{12001, 12002}, {103, 104}, 105, 106
 static const halviruso_state BEGUN = {{32768 + 103, 32768 + 104}, 105, 106, 107, 1, 2, 0xFF00, HALVIRUSO_ABSENT, 0, 0, 0};
 static const halviruso_state ELSEWHERE = {{32768 + 201, 32768 + 202}, 203, 204, 205, 1, 3, 0, 209, 110, 0, 212};
 
-static int is(halviruso_answer answer, uint32_t code, uint32_t first, uint32_t second)
-{
-    return answer.code == code && answer.first == first && answer.second == second;
-}
-
 /* Fills all that is lent with numbers that are no entry, then makes the table fresh. */
 static void start(void)
 {
     memset(&lent, 0xA5, sizeof lent);
     lent.table = halviruso_fresh();
+    lent.open_jobs = 0;
     for (size_t at = 0; at <= HALVIRUSO_WIDTHS; at++)
         widths[at] = 10;
     kept = lent;
@@ -54,6 +40,16 @@ static void start(void)
 static int untouched(void)
 {
     return memcmp(&lent, &kept, sizeof lent) == 0;
+}
+
+static halviruso_answer open_job(uint32_t slot, uint32_t key, halviruso_descriptor descriptor)
+{
+    return halviruso_open(lent.table.entries, HALVIRUSO_SLOTS, &lent.open_jobs, slot, key, descriptor);
+}
+
+static halviruso_answer close_job(uint32_t slot, uint32_t key)
+{
+    return halviruso_close(lent.table.entries, HALVIRUSO_SLOTS, &lent.open_jobs, slot, key);
 }
 
 static halviruso_answer submit(uint32_t slot, uint32_t key, uint32_t number, const uint8_t *part, size_t length)
@@ -81,8 +77,9 @@ static void numbers_and_neighbours(void)
     for (uint32_t slot = 0; slot < HALVIRUSO_SLOTS; slot++) {
         halviruso_entry expected = {UINT32_MAX - slot, 1, UNLIKE, BEGUN, 1};
 
-        CHECK(is(halviruso_open(lent.table.entries, HALVIRUSO_SLOTS, slot, UINT32_MAX - slot, UNLIKE), HALVIRUSO_DONE, 0, 0));
+        CHECK(is(open_job(slot, UINT32_MAX - slot, UNLIKE), HALVIRUSO_DONE, 0, 0));
         kept.table.entries[slot] = expected;
+        kept.open_jobs = slot + 1;
         CHECK(untouched());
         CHECK(halviruso_count(lent.table.entries, HALVIRUSO_SLOTS) == slot + 1);
         /* one character is 10 wide and 107 are taken off: the second would start at 6, and I ends at -91 */
@@ -92,10 +89,12 @@ static void numbers_and_neighbours(void)
         kept.table.entries[slot].next = 2;
         memcpy(kept.records + HALVIRUSO_AREA * slot, record, sizeof record);
         CHECK(untouched());
-        CHECK(is(halviruso_close(lent.table.entries, HALVIRUSO_SLOTS, slot, UINT32_MAX - slot), HALVIRUSO_DONE, 0, 0));
+        CHECK(is(close_job(slot, UINT32_MAX - slot), HALVIRUSO_DONE, 0, 0));
         kept.table.entries[slot].mark = 0;
+        kept.open_jobs = slot;
         CHECK(untouched());
         kept.table.entries[slot].mark = lent.table.entries[slot].mark = 1; /* open again by hand, so that the count goes on growing */
+        kept.open_jobs = lent.open_jobs = slot + 1;
     }
 }
 
@@ -106,8 +105,8 @@ static void wrong_lengths(void)
 
     start();
     for (size_t at = 0; at < 3; at++) {
-        CHECK(is(halviruso_open(table, tables[at], 0, 1, UNLIKE), HALVIRUSO_LENT_LENGTH, 0, 0));
-        CHECK(is(halviruso_close(table, tables[at], 0, 1), HALVIRUSO_LENT_LENGTH, 0, 0));
+        CHECK(is(halviruso_open(table, tables[at], &lent.open_jobs, 0, 1, UNLIKE), HALVIRUSO_LENT_LENGTH, 0, 0));
+        CHECK(is(halviruso_close(table, tables[at], &lent.open_jobs, 0, 1), HALVIRUSO_LENT_LENGTH, 0, 0));
         CHECK(halviruso_count(table, tables[at]) == 0);
     }
     CHECK(is(halviruso_submit(table, 15, lent.records, HALVIRUSO_RECORDS, widths, HALVIRUSO_WIDTHS, 0, 1, 1, lent.before, 1), HALVIRUSO_LENT_LENGTH, 0, 0));
@@ -121,11 +120,11 @@ static void wrong_lengths(void)
 static void greatest_numbers(void)
 {
     start();
-    CHECK(is(halviruso_open(lent.table.entries, HALVIRUSO_SLOTS, 16, 1, UNLIKE), HALVIRUSO_NO_SLOT, 0, 0));
-    CHECK(is(halviruso_close(lent.table.entries, HALVIRUSO_SLOTS, UINT32_MAX, 1), HALVIRUSO_NO_SLOT, 0, 0));
+    CHECK(is(open_job(16, 1, UNLIKE), HALVIRUSO_NO_SLOT, 0, 0));
+    CHECK(is(close_job(UINT32_MAX, 1), HALVIRUSO_NO_SLOT, 0, 0));
     CHECK(is(submit(UINT32_MAX, 1, 1, lent.before, 1), HALVIRUSO_NO_SLOT, 0, 0));
     CHECK(untouched());
-    CHECK(is(halviruso_open(lent.table.entries, HALVIRUSO_SLOTS, 0, 1, UNLIKE), HALVIRUSO_DONE, 0, 0));
+    CHECK(is(open_job(0, 1, UNLIKE), HALVIRUSO_DONE, 0, 0));
     kept = lent;
     CHECK(is(submit(0, 1, UINT32_MAX, lent.before, 1), HALVIRUSO_BAD_NUMBER, 0, 0));
     CHECK(is(submit(0, 1, 65536 + 1, lent.before, 1), HALVIRUSO_BAD_NUMBER, 0, 0));
@@ -137,12 +136,13 @@ static void greatest_numbers(void)
 static void pointers(void)
 {
     start();
-    CHECK(is(halviruso_open(NULL, 0, 0, 1, UNLIKE), HALVIRUSO_LENT_LENGTH, 0, 0));
+    CHECK(is(halviruso_open(NULL, 0, &lent.open_jobs, 0, 1, UNLIKE), HALVIRUSO_LENT_LENGTH, 0, 0));
+    CHECK(is(halviruso_close(NULL, 0, &lent.open_jobs, 0, 1), HALVIRUSO_LENT_LENGTH, 0, 0));
     CHECK(halviruso_count(NULL, 0) == 0);
     CHECK(halviruso_check(NULL, 0) == HALVIRUSO_DONE);
     CHECK(halviruso_check_at(NULL, 0, 0) == HALVIRUSO_DONE);
     CHECK(halviruso_check_at(NULL, 0, 32768) == HALVIRUSO_BAD_DESCRIPTOR);
-    CHECK(is(halviruso_open(lent.table.entries, HALVIRUSO_SLOTS, 0, 1, UNLIKE), HALVIRUSO_DONE, 0, 0));
+    CHECK(is(open_job(0, 1, UNLIKE), HALVIRUSO_DONE, 0, 0));
     CHECK(is(submit(0, 1, 1, NULL, 0), HALVIRUSO_DONE, 0, 0));
     CHECK(is(submit(0, 1, 2, (const uint8_t *)"\xC1\xC2" + 1, 1), HALVIRUSO_DONE, 1, 17));
 }
@@ -224,8 +224,8 @@ static void refusals_point_at_a_byte(void)
     halviruso_state state = ELSEWHERE;
 
     start();
-    CHECK(halviruso_open(lent.table.entries, HALVIRUSO_SLOTS, 0, 1, UNLIKE).code == HALVIRUSO_DONE);
-    CHECK(halviruso_open(lent.table.entries, HALVIRUSO_SLOTS, 1, 1, UNLIKE).code == HALVIRUSO_DONE);
+    CHECK(open_job(0, 1, UNLIKE).code == HALVIRUSO_DONE);
+    CHECK(open_job(1, 1, UNLIKE).code == HALVIRUSO_DONE);
     CHECK(submit(1, 1, 1, begin_line, sizeof begin_line).code == HALVIRUSO_DONE);
     kept = lent;
     for (size_t at = 0; at < sizeof FAULTS / sizeof FAULTS[0]; at++) {
@@ -247,23 +247,22 @@ static void refusals_point_at_a_byte(void)
 static void late_requests(void)
 {
     static const uint32_t codes[4][3] = {{1, 1, 0}, {14, 16, 1}, {13, 16, 16}, {14, 16, 16}}; /* open, submit, close */
-    halviruso_entry *table = lent.table.entries;
 
     start();
-    CHECK(halviruso_open(table, HALVIRUSO_SLOTS, 5, 7, UNLIKE).code == HALVIRUSO_DONE);
+    CHECK(open_job(5, 7, UNLIKE).code == HALVIRUSO_DONE);
     CHECK(submit(5, 7, 1, NULL, 0).code == HALVIRUSO_DONE);
     for (size_t at = 0; at < 4; at++) {
         kept = lent;
-        CHECK(halviruso_open(table, HALVIRUSO_SLOTS, 5, 7, UNLIKE).code == codes[at][0]);
+        CHECK(open_job(5, 7, UNLIKE).code == codes[at][0]);
         CHECK(submit(5, 7, 1, NULL, 0).code == codes[at][1]);
         CHECK(untouched());
         /* while the job is open this is its first close; then the next job is opened, and closed */
-        CHECK(halviruso_close(table, HALVIRUSO_SLOTS, 5, 7).code == codes[at][2]);
+        CHECK(close_job(5, 7).code == codes[at][2]);
         CHECK(at == 0 || untouched());
         if (at == 1)
-            CHECK(halviruso_open(table, HALVIRUSO_SLOTS, 5, 8, UNLIKE).code == HALVIRUSO_DONE);
+            CHECK(open_job(5, 8, UNLIKE).code == HALVIRUSO_DONE);
         if (at == 2)
-            CHECK(halviruso_close(table, HALVIRUSO_SLOTS, 5, 8).code == HALVIRUSO_DONE);
+            CHECK(close_job(5, 8).code == HALVIRUSO_DONE);
     }
 }
 
@@ -278,7 +277,7 @@ static void rules_with_no_ink(void)
     thin.rule = 0;
     for (size_t at = 0; at < 2; at++) {
         start();
-        CHECK(halviruso_open(lent.table.entries, HALVIRUSO_SLOTS, 9, 1, thin).code == HALVIRUSO_DONE);
+        CHECK(open_job(9, 1, thin).code == HALVIRUSO_DONE);
         entry->state.used = FILLED[at];
         kept = lent;
         CHECK(is(submit(9, 1, 1, BARE, sizeof BARE), HALVIRUSO_DONE, 2, 0));
@@ -320,6 +319,5 @@ int main(void)
     late_requests();
     rules_with_no_ink();
     lengths_are_not_cut();
-    printf("%u checks, %u wrong\n", checks, wrong);
-    return wrong == 0 ? 0 : 1;
+    return checked();
 }

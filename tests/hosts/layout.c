@@ -54,3 +54,9 @@ AT(interpreted, state, 12);
 
 _Static_assert(_Alignof(halviruso_table) == 4, "alignment of a table");
 _Static_assert(HALVIRUSO_RECORDS == HALVIRUSO_SLOTS * HALVIRUSO_AREA, "an area for each slot");
+
+/* What open and close take, in their order; the number is lent by its address. */
+#define TAKES(function, ...) _Static_assert(_Generic(&halviruso_##function, halviruso_answer (*)(__VA_ARGS__): 1, default: 0), "arguments of " #function)
+
+TAKES(open, halviruso_entry *, size_t, uint32_t *, uint32_t, uint32_t, halviruso_descriptor);
+TAKES(close, halviruso_entry *, size_t, uint32_t *, uint32_t, uint32_t);
