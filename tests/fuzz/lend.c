@@ -53,6 +53,13 @@ void lend_put(lend *l, const void *bytes) {
         memcpy(l->own + (from - l->span), (const unsigned char *)bytes + (from - l->at), (size_t)(to - from));
 }
 
+void lend_get(const lend *l, void *bytes) {
+    unsigned char *from, *to;
+    real(l, &from, &to);
+    if (from < to)
+        memcpy((unsigned char *)bytes + (from - l->at), from, (size_t)(to - from));
+}
+
 int lend_holds(const lend *l, const void *bytes) {
     unsigned char *from, *to;
     real(l, &from, &to);

@@ -24,6 +24,9 @@ void lend_place(lend *l, size_t size, enum side side);
 /* Puts bytes where they are lent, as many as there are. */
 void lend_put(lend *l, const void *bytes);
 
+/* Takes the lent bytes, as many as there are; the others stay. */
+void lend_get(const lend *l, void *bytes);
+
 /* Whether the lent bytes are these. */
 int lend_holds(const lend *l, const void *bytes);
 

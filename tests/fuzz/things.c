@@ -66,6 +66,20 @@ halviruso_entry an_entry(void) {
     return e;
 }
 
+uint32_t a_number(uint32_t walked) {
+    static const uint32_t EDGE[] = {0, 0, 1, 15, 16, 16, 17, 17, 256, 65536, 0x80000000u, 0xFFFFFFFFu};
+    switch (below(5)) {
+    case 0:
+        return PICK(EDGE);
+    case 1:
+        return walked + below(3) - 1;
+    case 2:
+        return once_in(2) ? any() : below(17);
+    default:
+        return walked;
+    }
+}
+
 enum { SEQUENCES = 19 };
 
 /* The nineteen types and one that there isn't, with a usual number of parameters. */

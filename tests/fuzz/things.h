@@ -1,4 +1,4 @@
-/* Parts, descriptors, states and entries: as the rules want them, nearly so, or any bytes at all. */
+/* Parts, descriptors, states, entries and stored numbers: as the rules want them, nearly so, or any bytes at all. */
 #ifndef THINGS_H
 #define THINGS_H
 
@@ -9,6 +9,8 @@ enum { LONGEST = 8192 + 64 };
 halviruso_descriptor a_descriptor(void);
 halviruso_state a_state(const halviruso_descriptor *d);
 halviruso_entry an_entry(void);
+/* A number of open jobs, beside a table that has so many. */
+uint32_t a_number(uint32_t walked);
 
 /* Whether this is the TYPE of one of the nineteen sequences, chained or not. */
 int is_type(unsigned char byte);

@@ -7,28 +7,32 @@
 #include <unistd.h>
 
 #include "chance.h"
+#include "stored.h"
 #include "things.h"
 
 enum { ENTRY = sizeof(halviruso_entry), MOST_ENTRIES = 24, MOST_RECORDS = 70000, MOST_AREA = 4400, MOST_WIDTHS = 1200 };
 enum { OPEN, SUBMIT, CLOSE, COUNT, INTERPRET, CHECK, CHECK_AT, FRESH, ENTRIES };
+enum { CODES = 33 };
 
 static const char *const NAMES[] = {"open", "submit", "close", "count", "interpret", "check", "check_at", "fresh"};
 
-static lend table, records, area, widths, part;
+static lend table, records, area, stored, widths, part;
 static enum side guarded;
-static int around_changes, within_changes, answer_changes, place_changes, place_leaves, record_empties, increment_passes; /* wrong on purpose */
+static int around_changes, within_changes, answer_changes, place_changes, place_leaves, record_empties, increment_passes, busy_counts, close_stays,
+    stored_first; /* wrong on purpose */
 
 /* What was lent, as it must be after the call. */
 static halviruso_entry old_table[MOST_ENTRIES];
 static unsigned char old_records[MOST_RECORDS], old_area[MOST_AREA], old_part[LONGEST];
 static uint16_t old_widths[MOST_WIDTHS];
+static uint32_t old_stored;
 
 static size_t entries, width_count, part_bytes;
 
 unsigned long calls_made;
 static int entry;
 static volatile sig_atomic_t inside; /* 1 while the library is at work */
-static unsigned long met[ENTRIES][30];
+static unsigned long met[ENTRIES][CODES];
 
 static void expect(int holds, const char *what) {
     if (!holds) {
@@ -45,12 +49,12 @@ static void on_fault(int number) {
 }
 
 void tries_start(enum side side, const char *wrong) {
-    static const char *const called[] = {"table", "records", "area", "widths", "part"};
-    static const size_t most[] = {sizeof old_table, sizeof old_records, sizeof old_area, sizeof old_widths, sizeof old_part};
-    lend *const slices[] = {&table, &records, &area, &widths, &part};
+    static const char *const called[] = {"table", "records", "area", "stored", "widths", "part"};
+    static const size_t most[] = {sizeof old_table, sizeof old_records, sizeof old_area, sizeof old_stored, sizeof old_widths, sizeof old_part};
+    lend *const slices[] = {&table, &records, &area, &stored, &widths, &part};
     guarded = side;
-    for (size_t which = 0; which < 5; which++) {
-        *slices[which] = lend_new(most[which], which > 2);
+    for (size_t which = 0; which < 6; which++) {
+        *slices[which] = lend_new(most[which], which > 3);
         slices[which]->overdrawn = strcmp(wrong, called[which]) == 0;
         lend_place(slices[which], 0, side);
     }
@@ -61,6 +65,9 @@ void tries_start(enum side side, const char *wrong) {
     place_leaves = strcmp(wrong, "beyond") == 0;
     record_empties = strcmp(wrong, "empty") == 0;
     increment_passes = strcmp(wrong, "increment") == 0;
+    busy_counts = strcmp(wrong, "busy") == 0;
+    close_stays = strcmp(wrong, "close") == 0;
+    stored_first = strcmp(wrong, "early") == 0;
     signal(SIGSEGV, on_fault);
     signal(SIGBUS, on_fault);
 }
@@ -76,6 +83,20 @@ static void lend_table(void) {
         old_table[slot] = an_entry();
     lend_place(&table, entries * ENTRY, guarded);
     lend_put(&table, old_table);
+}
+
+/* How many entries of the table are open, as a count says it. */
+static uint32_t walked(void) {
+    uint32_t open = 0;
+    for (size_t slot = 0; slot < entries && entries == HALVIRUSO_SLOTS; slot++)
+        open += old_table[slot].mark != 0;
+    return open;
+}
+
+static void lend_stored(uint32_t number) {
+    old_stored = number;
+    lend_place(&stored, sizeof old_stored, guarded);
+    lend_put(&stored, &old_stored);
 }
 
 /* Record bytes; most calls get those that the one before has left. */
@@ -105,7 +126,7 @@ static void lend_part(int chained) {
     lend_put(&part, old_part);
 }
 
-#define BITS(from, to) (((2u << ((to) - (from))) - 1) << (from))
+#define BITS(from, to) (((2ull << ((to) - (from))) - 1) << (from))
 
 /* Whether LENGTH and a TYPE that there is stand right before this byte of the part. */
 static int introduced(size_t first) {
@@ -125,25 +146,33 @@ static int pointed_at(uint32_t code, size_t first) {
     }
 }
 
+/* Whether a refusal with this code points at a byte at all. */
+static int points(uint32_t code) {
+    return code >= HALVIRUSO_CUT && code <= HALVIRUSO_NO_ROOM;
+}
+
 /* The answer as it would be if what is wrong on purpose were so. */
 static halviruso_answer spoiled(halviruso_answer a) {
     a.code += (uint32_t)answer_changes;
-    if (place_changes && a.code >= 20 && a.first + 1 < part_bytes)
+    if (place_changes && points(a.code) && a.first + 1 < part_bytes)
         a.first++;
-    if (place_leaves && a.code >= 20)
+    if (place_leaves && points(a.code))
         a.first = (uint32_t)part_bytes;
+    if (stored_first && ((entry == OPEN && !open_takes(old_stored)) || (entry == CLOSE && !close_takes(old_stored))))
+        a.code = HALVIRUSO_STORED_NUMBER;
     return a;
 }
 
-/* The code is one of the entry's, and the two numbers are those that go with it. */
-static void expect_answer(halviruso_answer given, uint32_t codes) {
+/* The code is one of the entry's, and the two numbers are those that go with it; gives the code. */
+static uint32_t expect_answer(halviruso_answer given, uint64_t codes) {
     halviruso_answer a = spoiled(given);
-    expect(a.code < 30 && (codes >> a.code & 1), "a code that isn't the entry's");
+    expect(a.code < CODES && (codes >> a.code & 1), "a code that isn't the entry's");
     expect(a.code == 0 || a.second == 0, "a second number with a refusal");
-    expect(a.code == 0 || a.code >= 20 || a.first == 0, "a first number without an element");
-    expect(a.code < 20 || a.first < part_bytes, "a refusal that points beyond the part");
-    expect(a.code < 20 || pointed_at(a.code, a.first), "a refusal that points at another byte");
+    expect(a.code == 0 || points(a.code) || a.first == 0, "a first number without an element");
+    expect(!points(a.code) || a.first < part_bytes, "a refusal that points beyond the part");
+    expect(!points(a.code) || pointed_at(a.code, a.first), "a refusal that points at another byte");
     met[entry][a.code]++;
+    return a.code;
 }
 
 /* This entry of the table may be another now. */
@@ -193,19 +222,51 @@ static uint32_t key_of(uint32_t slot) {
     return slot < entries && !once_in(6) ? old_table[slot].key : below(6);
 }
 
-static void try_open(void) {
-    lend_table();
-    uint32_t slot = a_slot(), key = key_of(slot) + below(3);
-    halviruso_descriptor d = a_descriptor();
+/* The number as it would be if what is wrong on purpose were so. */
+static void spoil_stored(uint32_t code) {
+    uint32_t one_more = old_stored + 1;
+    if (busy_counts && code == HALVIRUSO_BUSY)
+        lend_put(&stored, &one_more);
+    if (close_stays && entry == CLOSE)
+        lend_put(&stored, &old_stored);
+}
+
+/* The number is what an open or a close that was answered so leaves; so many entries were open before. */
+static void expect_stored(uint32_t code, uint32_t walked_before, const char *(*fault)(const counting *)) {
+    counting c = {.code = code, .before = old_stored, .after = old_stored, .walked_before = walked_before, .walked_after = walked()};
+    spoil_stored(code);
+    lend_get(&stored, &c.after);
+    const char *what = fault(&c);
+    expect(what == NULL, what);
+    old_stored = c.after;
+    expect_kept(&stored, &old_stored);
+}
+
+static uint32_t opened(uint32_t slot, uint32_t key, halviruso_descriptor d) {
+    uint32_t walked_before = walked();
     inside = 1;
-    halviruso_answer a = halviruso_open(at(&table), entries, slot, key, d);
+    halviruso_answer a = halviruso_open(at(&table), entries, (uint32_t *)stored.at, slot, key, d);
     inside = 0;
-    expect_answer(a, BITS(0, 1) | BITS(10, 15));
-    if (a.code == 0) {
+    uint32_t code = expect_answer(a, BITS(0, 1) | BITS(10, 15) | BITS(32, 32));
+    if (code == 0) {
         allow_entry(slot);
         expect(old_table[slot].key == key && old_table[slot].mark == 1 && old_table[slot].next == 1, "what was opened isn't open");
     }
     expect_kept(&table, old_table);
+    expect_stored(code, walked_before, open_fault);
+    return code;
+}
+
+static void try_open(void) {
+    lend_table();
+    lend_stored(a_number(walked()));
+    uint32_t slot = a_slot(), key = key_of(slot) + below(3);
+    halviruso_descriptor d = a_descriptor();
+    if (opened(slot, key, d) != HALVIRUSO_STORED_NUMBER)
+        return;
+    /* 32 is the last of all tests: with the count in its place the same request is done */
+    lend_stored(walked());
+    expect(opened(slot, key, d) == 0, "32 before another answer");
 }
 
 static void try_submit(void) {
@@ -231,16 +292,27 @@ static void try_submit(void) {
     expect_kept(&records, old_records);
 }
 
-static void try_close(void) {
-    lend_table();
-    uint32_t slot = a_slot(), key = key_of(slot);
+static uint32_t closed(uint32_t slot, uint32_t key) {
+    uint32_t walked_before = walked();
     inside = 1;
-    halviruso_answer a = halviruso_close(at(&table), entries, slot, key);
+    halviruso_answer a = halviruso_close(at(&table), entries, (uint32_t *)stored.at, slot, key);
     inside = 0;
-    expect_answer(a, BITS(0, 1) | BITS(10, 12) | BITS(16, 16));
-    if (a.code == 0)
+    uint32_t code = expect_answer(a, BITS(0, 1) | BITS(10, 12) | BITS(16, 16) | BITS(32, 32));
+    if (code == 0)
         old_table[slot].mark = 0;
     expect_kept(&table, old_table);
+    expect_stored(code, walked_before, close_fault);
+    return code;
+}
+
+static void try_close(void) {
+    lend_table();
+    lend_stored(a_number(walked()));
+    uint32_t slot = a_slot(), key = key_of(slot);
+    if (closed(slot, key) != HALVIRUSO_STORED_NUMBER)
+        return;
+    lend_stored(walked());
+    expect(closed(slot, key) == 0, "32 before another answer");
 }
 
 static void try_count(void) {
@@ -248,10 +320,7 @@ static void try_count(void) {
     inside = 1;
     uint32_t count = halviruso_count(at(&table), entries);
     inside = 0;
-    uint32_t open = 0;
-    for (size_t slot = 0; slot < entries && entries == HALVIRUSO_SLOTS; slot++)
-        open += old_table[slot].mark != 0;
-    expect(count == open, "a wrong count");
+    expect(count == walked(), "a wrong count");
     met[COUNT][0]++;
     expect_kept(&table, old_table);
 }
@@ -280,7 +349,7 @@ static void try_check(void) {
     inside = 1;
     uint32_t code = halviruso_check(at(&part), part_bytes);
     inside = 0;
-    expect(code < 30 && ((BITS(0, 0) | BITS(19, 29)) >> code & 1), "a code that isn't the entry's");
+    expect(code < CODES && ((BITS(0, 0) | BITS(19, 29)) >> code & 1), "a code that isn't the entry's");
     expect(code < 20 || part_bytes > 0, "an element at fault in an empty part");
     met[CHECK][code]++;
 }
@@ -300,7 +369,7 @@ static void try_check_at(void) {
     inside = 0;
     if (increment_passes && increment > 32767)
         code = eight;
-    expect(code < 30 && ((increment > 32767 ? BITS(15, 15) : BITS(0, 0) | BITS(19, 29)) >> code & 1), "a code that isn't the increment's");
+    expect(code < CODES && ((increment > 32767 ? BITS(15, 15) : BITS(0, 0) | BITS(19, 29)) >> code & 1), "a code that isn't the increment's");
     expect(code < 20 || part_bytes > 0, "an element at fault in an empty part");
     expect(eight == plain, "the check isn't the one at 180");
     met[CHECK_AT][code]++;
@@ -317,7 +386,8 @@ static void try_fresh(void) {
 
 void try_one(void) {
     static void (*const TRIES[])(void) = {try_open, try_submit, try_close, try_count, try_interpret, try_check, try_check_at, try_fresh};
-    static const unsigned char TURNS[] = {OPEN, SUBMIT, SUBMIT, SUBMIT, SUBMIT, CLOSE, COUNT, INTERPRET, INTERPRET, INTERPRET, INTERPRET, CHECK, CHECK, CHECK_AT};
+    static const unsigned char TURNS[] = {OPEN,  OPEN,      SUBMIT,    SUBMIT,    SUBMIT,    SUBMIT, CLOSE, CLOSE,
+                                          COUNT, INTERPRET, INTERPRET, INTERPRET, INTERPRET, CHECK,  CHECK, CHECK_AT};
     entry = once_in(50) ? FRESH : PICK(TURNS);
     TRIES[entry]();
     calls_made++;
@@ -326,7 +396,7 @@ void try_one(void) {
 void tries_report(void) {
     for (size_t which = 0; which < ENTRIES; which++) {
         printf("  %-9s", NAMES[which]);
-        for (size_t code = 0; code < 30; code++)
+        for (size_t code = 0; code < CODES; code++)
             if (met[which][code] > 0)
                 printf(" %zu:%lu", code, met[which][code]);
         printf("\n");
