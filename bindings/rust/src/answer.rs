@@ -52,6 +52,8 @@ impl Code {
     pub const POSITION: Self = Self(28);
     /// The record area is full: at the element's first byte.
     pub const NO_ROOM: Self = Self(29);
+    /// The stored number of open jobs can't be the table's: [`Hub::recount`](crate::Hub::recount), and send again.
+    pub const STORED_NUMBER: Self = Self(32);
 
     /// The code's meaning in the hub's words, if it has one here.
     pub const fn meaning(self) -> Option<&'static str> {
@@ -78,6 +80,7 @@ impl Code {
             Self::OUTSIDE => "outside",
             Self::POSITION => "position",
             Self::NO_ROOM => "no room",
+            Self::STORED_NUMBER => "stored number wrong",
             _ => return None,
         })
     }
@@ -119,9 +122,9 @@ mod tests {
     use super::*;
 
     #[test]
-    fn the_twenty_two_codes_have_words() {
+    fn the_twenty_three_codes_have_words() {
         let named: Vec<u32> = (0..=100).filter(|&n| Code(n).meaning().is_some()).collect();
-        let paper: Vec<u32> = [0, 1].into_iter().chain(10..=29).collect();
+        let paper: Vec<u32> = [0, 1].into_iter().chain(10..=29).chain([32]).collect();
         assert_eq!(named, paper);
     }
 

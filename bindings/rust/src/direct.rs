@@ -37,7 +37,7 @@ pub fn interpret(
 /// The library's answer, [`Code::BAD_DESCRIPTOR`], if the descriptor is out of range.
 pub fn first_state(descriptor: Descriptor) -> Result<State, Answer> {
     let mut table = ffi::fresh();
-    match ffi::open(&mut table, 0, 1, descriptor) {
+    match ffi::open(&mut table, &mut 0, 0, 1, descriptor) {
         Answer { code: Code::DONE, .. } => Ok(table.entries[0].state),
         refusal => Err(refusal),
     }

@@ -14,6 +14,7 @@ mod c {
         pub fn halviruso_open(
             table: *mut Entry,
             table_length: usize,
+            open_jobs: *mut u32,
             slot: u32,
             key: u32,
             descriptor: Descriptor,
@@ -34,6 +35,7 @@ mod c {
         pub fn halviruso_close(
             table: *mut Entry,
             table_length: usize,
+            open_jobs: *mut u32,
             slot: u32,
             key: u32,
         ) -> Answer;
@@ -58,10 +60,16 @@ pub(crate) fn fresh() -> Table {
     unsafe { c::halviruso_fresh() }
 }
 
-pub(crate) fn open(table: &mut Table, slot: u32, key: u32, descriptor: Descriptor) -> Answer {
+pub(crate) fn open(
+    table: &mut Table,
+    open_jobs: &mut u32,
+    slot: u32,
+    key: u32,
+    descriptor: Descriptor,
+) -> Answer {
     let table = &mut table.entries;
-    // SAFETY: pointer and length are one slice's, borrowed alone for the call.
-    unsafe { c::halviruso_open(table.as_mut_ptr(), table.len(), slot, key, descriptor) }
+    // SAFETY: pointer and length are one slice's; it and the number are each borrowed alone for the call.
+    unsafe { c::halviruso_open(table.as_mut_ptr(), table.len(), open_jobs, slot, key, descriptor) }
 }
 
 /// What a submit is lent.
@@ -92,10 +100,10 @@ pub(crate) fn submit(lent: Lent<'_>, slot: u32, key: u32, number: u32, part: &[u
     }
 }
 
-pub(crate) fn close(table: &mut Table, slot: u32, key: u32) -> Answer {
+pub(crate) fn close(table: &mut Table, open_jobs: &mut u32, slot: u32, key: u32) -> Answer {
     let table = &mut table.entries;
-    // SAFETY: pointer and length are one slice's, borrowed alone for the call.
-    unsafe { c::halviruso_close(table.as_mut_ptr(), table.len(), slot, key) }
+    // SAFETY: pointer and length are one slice's; it and the number are each borrowed alone for the call.
+    unsafe { c::halviruso_close(table.as_mut_ptr(), table.len(), open_jobs, slot, key) }
 }
 
 pub(crate) fn count(table: &Table) -> u32 {

@@ -7,7 +7,7 @@ use crate::ffi::{self, Lent};
 use crate::shapes::{Descriptor, Entry, Table};
 use crate::{Answer, Records, AREA, RECORDS, SLOTS, TABLE, WIDTHS};
 
-/// Sixteen slots for jobs, and their records.
+/// Sixteen slots for jobs, the number of open ones, and their records.
 ///
 /// A request takes the hub by `&mut`, so two never run on one table at once; threads
 /// share a hub behind a lock. Promised is what requests alone have made of the memory:
@@ -15,28 +15,35 @@ use crate::{Answer, Records, AREA, RECORDS, SLOTS, TABLE, WIDTHS};
 #[derive(Clone)]
 pub struct Hub {
     table: Box<Table>,
+    /// The stored number, lent with the table; only requests and a recount write to it.
+    open_jobs: u32,
     records: Box<[u8; RECORDS]>,
 }
 
 impl Hub {
-    /// A fresh table and zeroed records.
+    /// A fresh table with no open jobs, and zeroed records.
     pub fn new() -> Self {
-        Self { table: Box::new(ffi::fresh()), records: Box::new([0; RECORDS]) }
+        Self { table: Box::new(ffi::fresh()), open_jobs: 0, records: Box::new([0; RECORDS]) }
     }
 
     /// A hub on memory that was kept: [`table_bytes`](Self::table_bytes) and
     /// [`record_bytes`](Self::record_bytes) of one moment, or what a host in C kept.
     ///
+    /// The number of open jobs isn't kept: it is counted here, so that it is right beside
+    /// any table.
+    ///
     /// Any bytes are taken. An open entry with a number out of range is answered 12. A
     /// wrong number that is in range, or a wrong record byte, is not seen: where files may
     /// go bad, keep a checksum with them.
     pub fn from_memory(table: &[u8; TABLE], records: &[u8; RECORDS]) -> Self {
-        Self { table: Box::new(bytes::to_table(table)), records: Box::new(*records) }
+        let table = Box::new(bytes::to_table(table));
+        let open_jobs = ffi::count(&table);
+        Self { table, open_jobs, records: Box::new(*records) }
     }
 
     /// Opens a job in a slot under a key, which must be above every key that the slot has had.
     pub fn open(&mut self, slot: u32, key: u32, descriptor: Descriptor) -> Answer {
-        ffi::open(&mut self.table, slot, key, descriptor)
+        ffi::open(&mut self.table, &mut self.open_jobs, slot, key, descriptor)
     }
 
     /// Submits part `number` of the job; the first is 1. Send it again, with the same number, until it is answered.
@@ -51,18 +58,38 @@ impl Hub {
         number: u32,
         part: &[u8],
     ) -> Answer {
-        let Self { table, records } = self;
+        let Self { table, records, .. } = self;
         ffi::submit(Lent { table, records: &mut records[..], widths }, slot, key, number, part)
     }
 
     /// Closes the job of this key. Its records stay until the slot's next job writes over them.
     pub fn close(&mut self, slot: u32, key: u32) -> Answer {
-        ffi::close(&mut self.table, slot, key)
+        ffi::close(&mut self.table, &mut self.open_jobs, slot, key)
     }
 
-    /// How many jobs are open, damaged ones included.
+    /// How many jobs are open, damaged ones included, without a walk over the table.
+    ///
+    /// It is [`count`](Self::count) after every request. Only a mark that the host writes
+    /// itself, by [`entry_mut`](Self::entry_mut), makes the two differ; then
+    /// [`recount`](Self::recount).
+    pub fn open_jobs(&self) -> u32 {
+        self.open_jobs
+    }
+
+    /// How many jobs are open, damaged ones included, by a walk over the table: right
+    /// whoever has written to it.
     pub fn count(&self) -> u32 {
         ffi::count(&self.table)
+    }
+
+    /// Makes [`open_jobs`](Self::open_jobs) what [`count`](Self::count) says, and answers it.
+    ///
+    /// For a host that has written marks itself, and after an answer of 32
+    /// ([`Code::STORED_NUMBER`](crate::Code::STORED_NUMBER)), which has changed nothing: the request
+    /// can be sent again.
+    pub fn recount(&mut self) -> u32 {
+        self.open_jobs = self.count();
+        self.open_jobs
     }
 
     /// The records of a slot's job in the order of its parts, of a closed job too; none above slot 15.
@@ -91,6 +118,9 @@ impl Hub {
     /// to 0. Its key stays, so that keys only rise and the job's late requests do no harm;
     /// if it is in doubt too, set it to the greatest key that the slot has had. The job's
     /// records are not promised any more. The slot's next job is one like any other.
+    ///
+    /// Whoever has written a mark calls [`recount`](Self::recount), so that
+    /// [`open_jobs`](Self::open_jobs) is right again.
     pub fn entry_mut(&mut self, slot: u32) -> Option<&mut Entry> {
         self.table.entries.get_mut(slot as usize)
     }
@@ -171,6 +201,25 @@ mod tests {
         assert_eq!(hub.submit(&[144; WIDTHS], 15, 1, 2, b"").code, Code::DAMAGED);
         assert_eq!(hub.close(15, 1).code, Code::DAMAGED);
         assert_eq!(hub.count(), 1);
+    }
+
+    #[test]
+    fn a_stored_number_that_cannot_be_right_is_refused_and_left() {
+        for number in [0, 1, 15, 16, 17, u32::MAX] {
+            let mut hub = opened();
+            hub.open_jobs = number;
+            let (code, left) = match number {
+                0..=15 => (Code::DONE, number + 1),
+                _ => (Code::STORED_NUMBER, number),
+            };
+            assert_eq!((hub.open(0, 1, SHEET).code, hub.open_jobs()), (code, left));
+            hub.open_jobs = number;
+            let (code, left) = match number {
+                1..=16 => (Code::DONE, number - 1),
+                _ => (Code::STORED_NUMBER, number),
+            };
+            assert_eq!((hub.close(15, 1).code, hub.open_jobs()), (code, left));
+        }
     }
 
     #[test]

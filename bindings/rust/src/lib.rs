@@ -2,9 +2,9 @@
 //!
 //! Tenants open jobs and send PTOCA presentation text in numbered parts; the hub
 //! places each part as text and rule records, which printers read. [`Hub`] owns the
-//! table and the record buffer that the library is lent, and hands on what the library
-//! answers: nothing here decides anything. The width table is the host's, lent with
-//! each part. What to do about each answer stands in `docs/HOSTS.md`.
+//! table, the number of open jobs and the record buffer that the library is lent, and
+//! hands on what the library answers: nothing here decides anything. The width table is
+//! the host's, lent with each part. What to do about each answer stands in `docs/HOSTS.md`.
 //!
 //! # A job from open to close
 //!
@@ -43,8 +43,10 @@
 //! }).collect();
 //! assert_eq!(printed, ["text at 720, 480: [C1, C2]", "rule at 1008, 480: 1440 by 14"]);
 //!
-//! assert_eq!(hub.count(), 1);
+//! // The desk may ask at any time: the number is there, and nothing is walked.
+//! assert_eq!(hub.open_jobs(), 1);
 //! assert_eq!(hub.close(3, 7).code, Code::DONE);
+//! assert_eq!(hub.open_jobs(), 0);
 //! assert_eq!(hub.submit(&widths, 3, 7, 3, part).to_string(), "16, no such job; 0, 0");
 //! ```
 //!
@@ -94,9 +96,10 @@
 //!
 //! # Over a restart
 //!
-//! All that the hub knows is the table and the record buffer. Keep both, of the same
-//! moment, before the reply goes out: what is accepted after that, a restart forgets.
-//! Within the program [`Hub::clone`] keeps them.
+//! All that the hub knows is the table and the record buffer; the number of open jobs is
+//! counted when they are put back. Keep both, of the same moment, before the reply goes
+//! out: what is accepted after that, a restart forgets. Within the program [`Hub::clone`]
+//! keeps them.
 //!
 //! ```
 //! use std::io::{Read, Write};
@@ -119,6 +122,7 @@
 //! file.read_exact(&mut table)?;
 //! file.read_exact(&mut records)?;
 //! let mut hub = Hub::from_memory(&table, &records);
+//! assert_eq!(hub.open_jobs(), 1);
 //! assert_eq!(hub.submit(&widths, 3, 7, 1, b"\xC1").code, Code::ALREADY_TAKEN);
 //! assert_eq!(hub.submit(&widths, 3, 7, 2, b"\xC2").code, Code::DONE);
 //! # Ok(())
@@ -129,7 +133,8 @@
 //!
 //! Where somebody else has written to the memory, an entry may hold numbers that no job
 //! has. Its requests are answered 12, and the other jobs go on. Put back what was kept,
-//! or give up the job by its mark ([`Hub::entry_mut`] says what that means).
+//! or give up the job by its mark ([`Hub::entry_mut`] says what that means). A mark that
+//! the host writes itself isn't counted: [`Hub::recount`] does that.
 //!
 //! ```
 //! # use halviruso::{Code, Descriptor, Hub, Point, WIDTHS};
@@ -140,6 +145,7 @@
 //! # hub.entry_mut(3).unwrap().state.font = 4;
 //! if hub.submit(&widths, 3, 7, 1, b"\xC1").code == Code::DAMAGED {
 //!     hub.entry_mut(3).unwrap().mark = 0;
+//!     assert_eq!(hub.recount(), 0);
 //! }
 //! // The key stays: the next one is above it.
 //! assert_eq!(hub.open(3, 7, sheet).code, Code::OLD_KEY);

@@ -42,10 +42,12 @@ fn a_damaged_job_is_given_up() {
         damage(hub.entry_mut(3).unwrap());
         assert_eq!(codes(&mut hub), [Code::DAMAGED; 4]);
         assert_eq!(hub.open(3, 8, sheet()).code, Code::DAMAGED);
+        assert_eq!((hub.open_jobs(), hub.count()), (2, 2));
         hub.entry_mut(3).unwrap().mark = 0;
+        assert_eq!((hub.open_jobs(), hub.recount()), (2, 1));
         let gone = [Code::OLD_KEY, Code::NO_JOB, Code::NO_JOB, Code::ALREADY_TAKEN];
         assert_eq!((codes(&mut hub), hub.count()), (gone, 1));
-        assert_eq!(hub.open(3, 8, sheet()).code, Code::DONE);
+        assert_eq!((hub.open(3, 8, sheet()).code, hub.open_jobs()), (Code::DONE, 2));
         assert_eq!(hub.submit(&TENTH, 3, 8, 1, b"\xC3").code, Code::DONE);
         assert_eq!((hub.records(3).count(), hub.table()[3].state.used), (1, 17));
     }

@@ -31,7 +31,7 @@ fn restarted(hub: Hub) -> Hub {
 }
 
 fn assert_same(hub: &Hub, other: &Hub) {
-    assert_eq!(hub.table(), other.table());
+    assert_eq!((hub.table(), hub.open_jobs()), (other.table(), other.open_jobs()));
     assert!(hub.record_bytes() == other.record_bytes(), "the record bytes differ");
 }
 
@@ -124,7 +124,7 @@ fn any_bytes_make_a_hub() {
         let mut hub = Hub::from_memory(&table, &noise(3));
         let before = hub.clone();
         // No mark here is 0 or 1.
-        assert_eq!(hub.count(), 16);
+        assert_eq!((hub.count(), hub.open_jobs()), (16, 16));
         for slot in 0..16 {
             let Entry { key, next, .. } = before.table()[slot as usize];
             assert_eq!(hub.open(slot, key, Descriptor::default()).code, Code::DAMAGED);
@@ -151,5 +151,5 @@ fn closed_slots_may_hold_any_numbers() {
         assert_eq!(hub.submit(&TENTH, slot, 6, 1, b"\xC1").code, Code::DONE);
         assert_eq!(hub.records(slot).map(place).collect::<Vec<_>>(), [(0, 0)]);
     }
-    assert_eq!(hub.count(), 16);
+    assert_eq!((hub.count(), hub.open_jobs()), (16, 16));
 }

@@ -41,7 +41,7 @@ fn answer(code: Code, first: u32, second: u32) -> Answer {
 #[test]
 fn a_fresh_table_is_closed_with_last_key_0() {
     let hub = Hub::new();
-    assert_eq!(hub.count(), 0);
+    assert_eq!((hub.count(), hub.open_jobs()), (0, 0));
     for slot in 0..16 {
         let entry = hub.entry(slot).unwrap();
         assert_eq!((entry.key, entry.is_open()), (0, false));
