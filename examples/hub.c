@@ -1,5 +1,5 @@
 /*
- * A job from open to close: what a host lends, what it sends, how it sends again, and how a printer reads the records.
+ * A job from open to close: what a host lends, what it sends, how it sends again, how a printer reads the records, and what the desk is told.
  */
 #include "halviruso.h"
 #include "meaning.h"
@@ -10,6 +10,7 @@
 
 /* What this host lends. It is the host's from first to last: the library looks at it during a call only, and keeps nothing of its own. */
 static halviruso_table table;
+static uint32_t open_jobs; /* the number beside the table: open and close keep it */
 static uint8_t records[HALVIRUSO_RECORDS];
 static uint16_t widths[HALVIRUSO_WIDTHS];
 
@@ -43,9 +44,20 @@ static void say(const char *what, halviruso_answer answer)
 static void start(void)
 {
     table = halviruso_fresh();
+    open_jobs = 0;
     memset(records, 0, sizeof records);
     for (size_t at = 0; at < HALVIRUSO_WIDTHS; at++)
         widths[at] = 144; /* every character of every font is a tenth of an inch wide */
+}
+
+static halviruso_answer open_job(void)
+{
+    return halviruso_open(table.entries, HALVIRUSO_SLOTS, &open_jobs, SLOT, KEY, LETTER);
+}
+
+static halviruso_answer close_job(void)
+{
+    return halviruso_close(table.entries, HALVIRUSO_SLOTS, &open_jobs, SLOT, KEY);
 }
 
 static halviruso_answer submit(uint32_t number, const uint8_t *part, size_t length)
@@ -133,10 +145,26 @@ static void send_a_bad_part(const char *what, const uint8_t *part, size_t length
     printf("memory: %s\n", same ? "unchanged" : "CHANGED");
 }
 
+/* The desk asks many times a second. The number is there: no walk, no call. */
+static void tell_the_desk(void)
+{
+    printf("open jobs: %" PRIu32 "\n", open_jobs);
+}
+
+/* 32: the number beside the table can't be right. Nothing was changed, so it is set to what the walk says, and the request is sent again. */
+static void close_with_the_number_lost(void)
+{
+    open_jobs = 0;
+    say("close, the number lost", close_job());
+    open_jobs = halviruso_count(table.entries, HALVIRUSO_SLOTS);
+    tell_the_desk();
+    say("close", close_job());
+}
+
 int main(void)
 {
     start();
-    say("open", halviruso_open(table.entries, HALVIRUSO_SLOTS, SLOT, KEY, LETTER));
+    say("open", open_job());
     say("part 1", submit(1, HEADING, sizeof HEADING));
     /* No reply in time? The same request again is safe: 1 says that it was taken, and nothing is placed twice. */
     say("part 1 again", submit(1, HEADING, sizeof HEADING));
@@ -145,12 +173,12 @@ int main(void)
     send_a_bad_part("part 2, in a direction that there isn't", NO_DIRECTION, sizeof NO_DIRECTION);
     say("part 2, mended", submit(2, NEXT_LINE, sizeof NEXT_LINE));
     print_records(SLOT);
-    printf("open jobs: %" PRIu32 "\n", halviruso_count(table.entries, HALVIRUSO_SLOTS));
-    say("close", halviruso_close(table.entries, HALVIRUSO_SLOTS, SLOT, KEY));
-    say("close again", halviruso_close(table.entries, HALVIRUSO_SLOTS, SLOT, KEY));
+    tell_the_desk();
+    close_with_the_number_lost();
+    say("close again", close_job());
     say("part 1 after the close", submit(1, HEADING, sizeof HEADING));
     /* Keys only rise: the slot's next job needs one above 7. */
-    say("open again under the same key", halviruso_open(table.entries, HALVIRUSO_SLOTS, SLOT, KEY, LETTER));
-    printf("open jobs: %" PRIu32 "\n", halviruso_count(table.entries, HALVIRUSO_SLOTS));
+    say("open again under the same key", open_job());
+    tell_the_desk();
     return 0;
 }
