@@ -72,6 +72,7 @@ mod linked {
         fn halviruso_open(
             table: *mut Entry,
             entries: usize,
+            open_jobs: *mut u32,
             slot: u32,
             key: u32,
             d: Descriptor,
@@ -89,7 +90,13 @@ mod linked {
             part: *const u8,
             part_bytes: usize,
         ) -> Answer;
-        fn halviruso_close(table: *mut Entry, entries: usize, slot: u32, key: u32) -> Answer;
+        fn halviruso_close(
+            table: *mut Entry,
+            entries: usize,
+            open_jobs: *mut u32,
+            slot: u32,
+            key: u32,
+        ) -> Answer;
         fn halviruso_count(table: *const Entry, entries: usize) -> u32;
         fn halviruso_interpret(
             part: *const u8,
@@ -115,8 +122,15 @@ mod linked {
             unsafe { halviruso_fresh() }.entries
         }
 
-        fn open(&mut self, table: &mut [Entry], slot: u32, key: u32, d: &Descriptor) -> Answer {
-            unsafe { halviruso_open(table.as_mut_ptr(), table.len(), slot, key, *d) }
+        fn open(
+            &mut self,
+            table: &mut [Entry],
+            stored: &mut u32,
+            slot: u32,
+            key: u32,
+            d: &Descriptor,
+        ) -> Answer {
+            unsafe { halviruso_open(table.as_mut_ptr(), table.len(), stored, slot, key, *d) }
         }
 
         fn submit(
@@ -145,8 +159,8 @@ mod linked {
             }
         }
 
-        fn close(&mut self, table: &mut [Entry], slot: u32, key: u32) -> Answer {
-            unsafe { halviruso_close(table.as_mut_ptr(), table.len(), slot, key) }
+        fn close(&mut self, table: &mut [Entry], stored: &mut u32, slot: u32, key: u32) -> Answer {
+            unsafe { halviruso_close(table.as_mut_ptr(), table.len(), stored, slot, key) }
         }
 
         fn count(&mut self, table: &[Entry]) -> u32 {

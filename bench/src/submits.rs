@@ -42,34 +42,38 @@ pub fn asking<'a, B: Backend + 'a>(mut hub: B, history: &'a History) -> Run<'a> 
     let mut table: Vec<Entry> = hub.fresh().to_vec();
     let mut records = vec![0; RECORDS];
     let widths = [144; WIDTHS];
+    let mut stored = 0;
     let mut jobs: u32 = 0;
     Box::new(move |count| {
         for _ in 0..count {
             jobs += 1;
             let (slot, key) = (jobs % SLOTS as u32, jobs);
-            black_box(hub.open(&mut table, slot, key, &SHEET));
+            black_box(hub.open(&mut table, &mut stored, slot, key, &SHEET));
             for (part, number) in history.parts.iter().zip(1..) {
                 for _ in 0..history.sent {
                     let lent = Lent { table: &mut table, records: &mut records, widths: &widths };
                     black_box(hub.submit(lent, slot, key, number, black_box(part)));
                 }
             }
-            black_box(hub.close(&mut table, slot, key));
+            black_box(hub.close(&mut table, &mut stored, slot, key));
         }
     })
 }
 
-/// What a history leaves: all answers, the table, the records.
-pub fn told<B: Backend>(mut hub: B, history: &History) -> (Vec<u32>, Vec<Entry>, Vec<u8>) {
-    let (mut table, mut records) = (hub.fresh().to_vec(), vec![0; RECORDS]);
-    let mut codes = vec![hub.open(&mut table, 1, 1, &SHEET).code];
+/// What a history leaves: all answers, the number of open jobs during it and after it, the table, the records.
+type Told = (Vec<u32>, [u32; 2], Vec<Entry>, Vec<u8>);
+
+pub fn told<B: Backend>(mut hub: B, history: &History) -> Told {
+    let (mut table, mut records, mut stored) = (hub.fresh().to_vec(), vec![0; RECORDS], 0);
+    let mut codes = vec![hub.open(&mut table, &mut stored, 1, 1, &SHEET).code];
+    let during = stored;
     for (part, number) in history.parts.iter().zip(1..) {
         for _ in 0..history.sent {
             let lent = Lent { table: &mut table, records: &mut records, widths: &[144; WIDTHS] };
             codes.push(hub.submit(lent, 1, 1, number, part).code);
         }
     }
-    codes.push(hub.close(&mut table, 1, 1).code);
+    codes.push(hub.close(&mut table, &mut stored, 1, 1).code);
     records.truncate(2 * AREA);
-    (codes, table, records)
+    (codes, [during, stored], table, records)
 }
