@@ -37,9 +37,10 @@ static void give(const void *from, size_t size) {
 static void answer_open(void) {
     halviruso_descriptor descriptor;
     halviruso_interpreted out;
+    uint32_t open_jobs = 0;
     take(&descriptor, sizeof descriptor);
     table = halviruso_fresh();
-    out.answer = halviruso_open(table.entries, HALVIRUSO_SLOTS, 0, 1, descriptor);
+    out.answer = halviruso_open(table.entries, HALVIRUSO_SLOTS, &open_jobs, 0, 1, descriptor);
     out.state = table.entries[0].state;
     give(&out, sizeof out);
 }

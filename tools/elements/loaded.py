@@ -1,6 +1,6 @@
 """The library loaded into this process, where it is made for this processor."""
 import ctypes
-from ctypes import POINTER, c_size_t, c_uint8, c_uint16, c_uint32
+from ctypes import POINTER, byref, c_size_t, c_uint8, c_uint16, c_uint32
 
 from elements.shapes import SLOTS, Answer, Descriptor, Entry, Interpreted, NoLibrary, State
 
@@ -13,14 +13,14 @@ class Loaded:
         except (OSError, AttributeError) as error:
             raise NoLibrary(str(error)) from error
         self._open.restype, self._interpret.restype = Answer, Interpreted
-        self._open.argtypes = [POINTER(Entry), c_size_t, c_uint32, c_uint32, Descriptor]
+        self._open.argtypes = [POINTER(Entry), c_size_t, POINTER(c_uint32), c_uint32, c_uint32, Descriptor]
         slices = [POINTER(c_uint8), c_size_t, POINTER(c_uint16), c_size_t, POINTER(c_uint8), c_size_t]
         self._interpret.argtypes = [*slices, Descriptor, State]
 
     def opened(self, descriptor):
-        """The answer to an open, and the state in which the job begins. Zeros are sixteen closed entries with last key 0."""
-        table = (Entry * SLOTS)()
-        answer = self._open(table, SLOTS, 0, 1, descriptor)
+        """The answer to an open, and the state in which the job begins. Zeros are sixteen closed entries with last key 0, and no open job beside them."""
+        table, open_jobs = (Entry * SLOTS)(), c_uint32()
+        answer = self._open(table, SLOTS, byref(open_jobs), 0, 1, descriptor)
         return answer, table[0].state
 
     def interpret(self, part, widths, area, descriptor, state):

@@ -16,16 +16,17 @@ pub struct Interpreted {
 /// Opens a job.
 ///
 /// # Safety
-/// `table` is valid for `table_length` entries.
+/// `table` is valid for `table_length` entries, and `open_jobs` for one number beside them.
 #[no_mangle]
 pub unsafe extern "C" fn halviruso_open(
     table: *mut Entry,
     table_length: usize,
+    open_jobs: *mut u32,
     slot: u32,
     key: u32,
     descriptor: Descriptor,
 ) -> Answer {
-    hub::open(from_raw_parts_mut(table, table_length), slot, key, &descriptor)
+    hub::open(from_raw_parts_mut(table, table_length), &mut *open_jobs, slot, key, &descriptor)
 }
 
 /// Interprets one part from a state.
