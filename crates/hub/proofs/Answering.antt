@@ -17,19 +17,18 @@ use Rattle.part.specs.Place.{Effect}
 use Rattle.part.specs.Part.{elements, admitted, outcome, answer, answered, interpreted}
 use Rattle.part.specs.declared.shapes.Descriptor.{Descriptor}
 use Rattle.part.specs.declared.shapes.State.{State}
-use Rattle.part.proofs.Checks.{first-of, second-of, Gives, value, refusal, OfCode, gives-only, gives-where, fault-of}
+use Rattle.part.proofs.Checks.{first-of, second-of, Gives, value, refusal, OfCode, fault-of}
 use Rattle.part.proofs.Fits.{Coded}
 use Rattle.part.proofs.Kept.{cut-leaves}
 use Rattle.part.proofs.Pointing.{points-inside, part-points}
-use Rattle.hub.specs.Entries.{isOpen, isOpenUnder, isOldKey, damaged}
-use Rattle.hub.specs.Requests.{mayOpen, judged, maySubmit, mayClose, out, decided, partTaken, opening, closing, submitting, areaOf, Hub, Request, Open, Submit, Close, slotOf, isLent, onEntry, step}
+use Rattle.hub.specs.Requests.{maySubmit, out, decided, partTaken, opening, closing, submitting, areaOf, Hub, Request, Open, Submit, Close, slotOf, isLent, onEntry, step}
 use Rattle.hub.specs.Requests as requests
 use Rattle.hub.specs.Histories.{entryOf}
 use Rattle.hub.specs.Promises.{codesOf, OfTheTable, Answered}
 use Rattle.hub.specs.declared.jobs.Entry.{Entry}
 use Rattle.hub.proofs.Slots.{own-length}
 use Rattle.hub.proofs.Ranging.{in-range}
-use Rattle.hub.proofs.Deciding.{Refuses, SubmitTests, Here, here, whole, lent-widths, submit-tests}
+use Rattle.hub.proofs.Deciding.{SubmitTests, open-gives, submit-gives, close-gives, Here, here, whole, lent-widths}
 use Rattle.hub.proofs.Holding.{awaits}
 
 -- one of the request's own codes that is no part's, with no offset
@@ -50,40 +49,9 @@ plain r code at its =
 
 -- ---- open and close
 
--- a check that passes, or stops so
-abbrev Plain : Request → Checked Unit → Type 0
-Plain r m = Gives (λ _. Unit) (Its r) m
-
-decided-plain : {m : Checked Unit} (r : Request) (e f : Entry) → Its r 0 0 → Plain r m → OfTheTable r (decided e m (out f (answer 0 0 0)) .answer)
+decided-plain : {P : Unit → Type 0} {m : Checked Unit} (r : Request) (e f : Entry) → Its r 0 0 → Gives P (Its r) m → OfTheTable r (decided e m (out f (answer 0 0 0)) .answer)
 decided-plain r e f nought (value _) = plain r 0 0 nought
 decided-plain r e f nought (refusal {code} {at} its) = plain r code at its
-
-open-plain : (slot key : ℕ) (d : Descriptor) (stored : ℕ) (e : Entry) → Plain (Open slot key d) (mayOpen key d stored e)
-unfolding mayOpen
-open-plain slot key d stored e =
-    gives-where (not (damaged e)) 12 _ refl λ _.
-    gives-where (not (isOpenUnder e key)) 1 _ refl λ _.
-    gives-where (not (isOpen e)) 13 _ refl λ _.
-    gives-where (not (isOldKey e key)) 14 _ refl λ _.
-    gives-where (hold (descriptorFields d)) 15 _ refl λ _.
-    gives-only (stored ∈ upTo 15) 32 refl
-
-close-plain : (slot key stored : ℕ) (e : Entry) → Plain (Close slot key) (mayClose key stored e)
-unfolding mayClose
-close-plain slot key stored e =
-    gives-where (not (damaged e)) 12 _ refl λ _.
-    gives-where (not (not (isOpen e) && eqb (e .key) key && ltb 0 key)) 1 _ refl λ _.
-    gives-where (isOpenUnder e key) 16 _ refl λ _.
-    gives-only (stored ∈ 1 to 16) 32 refl
-
-submit-plain : (slot key number : ℕ) (part : List ℕ) (e : Entry) → Plain (Submit slot key number part) (maySubmit key number e)
-unfolding maySubmit judged
-submit-plain slot key number part e =
-    gives-where (not (damaged e)) 12 _ refl λ _.
-    gives-where (isOpenUnder e key) 16 _ refl λ _.
-    gives-where (number ∈ 1 to 65535) 17 _ refl λ _.
-    gives-where (leb (e .next) number) 1 _ refl λ _.
-    gives-only (leb number (e .next)) 18 refl
 
 -- ---- a part: 19 comes before its elements, and has no offset
 
@@ -124,7 +92,7 @@ module _ (widths : List ℕ) (d : Descriptor) (s : State) (part area : List ℕ)
 module _ (widths : List ℕ) (h : Hub) where
   submit-answered : (slot key number : ℕ) (part : List ℕ) → Here widths h (Submit slot key number part) → OfTheTable (Submit slot key number part) (onEntry widths h (Submit slot key number part) (entryOf h slot) .answer)
   unfolding submitting
-  submit-answered slot key number part x = go (maySubmit key number (entryOf h slot)) (submit-plain slot key number part (entryOf h slot)) (submit-tests key number (entryOf h slot))
+  submit-answered slot key number part x = go (maySubmit key number (entryOf h slot)) (submit-gives {Q = Its (Submit slot key number part)} key number (entryOf h slot) refl refl refl refl refl)
     where
       e : Entry
       e = entryOf h slot
@@ -132,19 +100,19 @@ module _ (widths : List ℕ) (h : Hub) where
       long : length (areaOf (h .records) slot) ≡ 4096
       long = own-length (h .records) slot (whole widths h slot key number part x) (x .low)
 
-      go : (m : Checked Unit) → Plain (Submit slot key number part) m → Gives (λ _. SubmitTests key number e) Refuses m
+      go : (m : Checked Unit) → Gives (λ _. SubmitTests key number e) (Its (Submit slot key number part)) m
           → OfTheTable (Submit slot key number part) (decided e m (partTaken e (interpreted widths (e .descriptor) (e .state) part (areaOf (h .records) slot))) .answer)
-      go (fine _) _ (value tests) =
+      go (fine _) (value tests) =
           let waits = awaits key number e tests in
           let ranges = in-range e (waits .is) (waits .undamaged) in
           part-answered widths (e .descriptor) (e .state) part (areaOf (h .records) slot) long (lent-widths widths h slot key number part x) (ranges .state) (ranges .descriptor) slot key number
-      go (fault code at) (refusal its) g = plain (Submit slot key number part) code at its
+      go (fault code at) (refusal its) = plain (Submit slot key number part) code at its
 
   its-answered : (r : Request) → Here widths h r → OfTheTable r (onEntry widths h r (entryOf h (slotOf r)) .answer)
   unfolding opening closing
-  its-answered (Open slot key d) x = decided-plain (Open slot key d) (entryOf h slot) _ refl (open-plain slot key d (h .stored) (entryOf h slot))
+  its-answered (Open slot key d) x = decided-plain (Open slot key d) (entryOf h slot) _ refl (open-gives {Q = Its (Open slot key d)} key d (h .stored) (entryOf h slot) refl refl refl refl refl (λ _. refl))
   its-answered (Submit slot key number part) x = submit-answered slot key number part x
-  its-answered (Close slot key) x = decided-plain (Close slot key) (entryOf h slot) _ refl (close-plain slot key (h .stored) (entryOf h slot))
+  its-answered (Close slot key) x = decided-plain (Close slot key) (entryOf h slot) _ refl (close-gives {Q = Its (Close slot key)} key (h .stored) (entryOf h slot) refl refl refl (λ _. refl))
 
   wrong : (r : Request) → OfTheTable r (requests.refusal 10)
   wrong (Open slot key d) = plain _ 10 0 refl

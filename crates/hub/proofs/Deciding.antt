@@ -9,7 +9,7 @@ use lib.ListN.{length, set}
 use lib.Seq.{set-getD, getD-set-same}
 use lib.Dec.{ltb, leb, eqb}
 use borrow.Author.Tests.{lt-ltb, ltb-true, eqb-true, eqb-false, not-true}
-use Rattle.part.specs.Checks.{Checked, fine, fault}
+use Rattle.part.specs.Checks.{Checked, fine, fault, require}
 use Rattle.part.specs.Ranges.{upTo, _to_, _∈_, hold, descriptorFields}
 use Rattle.part.specs.Part.{interpreted}
 use Rattle.part.specs.declared.shapes.Descriptor.{Descriptor}
@@ -43,32 +43,48 @@ pub record CloseTests (key stored : ℕ) (e : Entry) : Type 0 where
   pub under : isOpenUnder e key ≡ true
   pub falls : (stored ∈ 1 to 16) ≡ true
 
+last-test : {Q : ℕ → ℕ → Type 0} (t : Bool) (code : ℕ) → (t ≡ false → Q code 0) → Gives (λ _. t ≡ true) Q (require t code)
+last-test true code q = value refl
+last-test false code q = refusal (q refl)
+
+-- what holds of each test's code holds of the refusal
+module _ {Q : ℕ → ℕ → Type 0} where
+  pub open-gives : (key : ℕ) (d : Descriptor) (stored : ℕ) (e : Entry) → Q 12 0 → Q 1 0 → Q 13 0 → Q 14 0 → Q 15 0 → ((stored ∈ upTo 15) ≡ false → Q 32 0)
+      → Gives (λ _. OpenTests key d stored e) Q (mayOpen key d stored e)
+  unfolding mayOpen
+  open-gives key d stored e q12 q1 q13 q14 q15 q32 =
+      gives-where (not (damaged e)) 12 _ q12 λ _.
+      gives-where (not (isOpenUnder e key)) 1 _ q1 λ _.
+      gives-where (not (isOpen e)) 13 _ q13 λ shut.
+      gives-where (not (isOldKey e key)) 14 _ q14 λ newKey.
+      gives-where (hold (descriptorFields d)) 15 _ q15 λ ranges.
+      gives-so (λ _ grows. record { shut = not-true (isOpen e) shut; newKey = not-true (isOldKey e key) newKey; ranges = ranges; grows = grows }) (λ _ _ q. q) (last-test (stored ∈ upTo 15) 32 q32)
+
+  pub submit-gives : (key number : ℕ) (e : Entry) → Q 12 0 → Q 16 0 → Q 17 0 → Q 1 0 → Q 18 0 → Gives (λ _. SubmitTests key number e) Q (maySubmit key number e)
+  unfolding maySubmit judged
+  submit-gives key number e q12 q16 q17 q1 q18 =
+      gives-where (not (damaged e)) 12 _ q12 λ undamaged.
+      gives-where (isOpenUnder e key) 16 _ q16 λ under.
+      gives-where (number ∈ 1 to 65535) 17 _ q17 λ good.
+      gives-where (leb (e .next) number) 1 _ q1 λ isNew.
+      gives-so (λ _ isNear. record { undamaged = not-true (damaged e) undamaged; under = under; good = good; isNew = isNew; isNear = isNear }) (λ _ _ q. q) (gives-test (leb number (e .next)) 18 q18)
+
+  pub close-gives : (key stored : ℕ) (e : Entry) → Q 12 0 → Q 1 0 → Q 16 0 → ((stored ∈ 1 to 16) ≡ false → Q 32 0) → Gives (λ _. CloseTests key stored e) Q (mayClose key stored e)
+  unfolding mayClose
+  close-gives key stored e q12 q1 q16 q32 =
+      gives-where (not (damaged e)) 12 _ q12 λ _.
+      gives-where (not (not (isOpen e) && eqb (e .key) key && ltb 0 key)) 1 _ q1 λ _.
+      gives-where (isOpenUnder e key) 16 _ q16 λ under.
+      gives-so (λ _ falls. record { under = under; falls = falls }) (λ _ _ q. q) (last-test (stored ∈ 1 to 16) 32 q32)
+
 pub open-tests : (key : ℕ) (d : Descriptor) (stored : ℕ) (e : Entry) → Gives (λ _. OpenTests key d stored e) Refuses (mayOpen key d stored e)
-unfolding mayOpen
-open-tests key d stored e =
-    gives-where (not (damaged e)) 12 _ refl λ _.
-    gives-where (not (isOpenUnder e key)) 1 _ refl λ _.
-    gives-where (not (isOpen e)) 13 _ refl λ shut.
-    gives-where (not (isOldKey e key)) 14 _ refl λ newKey.
-    gives-where (hold (descriptorFields d)) 15 _ refl λ ranges.
-    gives-so (λ _ grows. record { shut = not-true (isOpen e) shut; newKey = not-true (isOldKey e key) newKey; ranges = ranges; grows = grows }) (λ _ _ q. q) (gives-test (stored ∈ upTo 15) 32 refl)
+open-tests key d stored e = open-gives key d stored e refl refl refl refl refl (λ _. refl)
 
 pub submit-tests : (key number : ℕ) (e : Entry) → Gives (λ _. SubmitTests key number e) Refuses (maySubmit key number e)
-unfolding maySubmit judged
-submit-tests key number e =
-    gives-where (not (damaged e)) 12 _ refl λ undamaged.
-    gives-where (isOpenUnder e key) 16 _ refl λ under.
-    gives-where (number ∈ 1 to 65535) 17 _ refl λ good.
-    gives-where (leb (e .next) number) 1 _ refl λ isNew.
-    gives-so (λ _ isNear. record { undamaged = not-true (damaged e) undamaged; under = under; good = good; isNew = isNew; isNear = isNear }) (λ _ _ q. q) (gives-test (leb number (e .next)) 18 refl)
+submit-tests key number e = submit-gives key number e refl refl refl refl refl
 
 pub close-tests : (key stored : ℕ) (e : Entry) → Gives (λ _. CloseTests key stored e) Refuses (mayClose key stored e)
-unfolding mayClose
-close-tests key stored e =
-    gives-where (not (damaged e)) 12 _ refl λ _.
-    gives-where (not (not (isOpen e) && eqb (e .key) key && ltb 0 key)) 1 _ refl λ _.
-    gives-where (isOpenUnder e key) 16 _ refl λ under.
-    gives-so (λ _ falls. record { under = under; falls = falls }) (λ _ _ q. q) (gives-test (stored ∈ 1 to 16) 32 refl)
+close-tests key stored e = close-gives key stored e refl refl refl (λ _. refl)
 
 module _ (widths : List ℕ) (h : Hub) where
   -- ---- all lengths are right and the slot is one: the request comes to its entry

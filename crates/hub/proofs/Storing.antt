@@ -3,7 +3,7 @@
 -- Assumes nothing.
 use Prim.Native.Nat.{ℕ, zero, suc, _+_, _≤_, _<_}
 use mathlib.Core.Path.{_≡_, refl, sym, _∙_}
-use mathlib.Core.Bool.{Bool, true, false, true≢false, not, _&&_}
+use mathlib.Core.Bool.{Bool, true, false, true≢false}
 use mathlib.Core.List.{List, [], _∷_}
 use native.Mathlib.Omega.{arith}
 use lib.ListN.{length, getD, set, length-set}
@@ -11,18 +11,17 @@ use lib.Dec.{ltb, leb, eqb}
 use borrow.Author.Tests.{ltb-true, le-leb, eq-eqb, eqb-false}
 use Rattle.part.specs.Numbers.{if_then_else_}
 use Rattle.part.specs.Checks.{Checked}
-use Rattle.part.specs.Ranges.{hold, descriptorFields}
-use Rattle.part.specs.Part.{answer, interpreted}
+use Rattle.part.specs.Part.{answer}
 use Rattle.part.specs.declared.shapes.Descriptor.{Descriptor}
-use Rattle.part.proofs.Checks.{Gives, value, refusal, gives-where}
-use Rattle.hub.specs.Entries.{isOpen, isOpenUnder, isOldKey, damaged, opened, goneOn, closed, fresh}
+use Rattle.part.proofs.Checks.{Gives, value, refusal}
+use Rattle.hub.specs.Entries.{isOpen, opened, closed, fresh}
 use Rattle.hub.specs.Requests.{mayOpen, mayClose, out, decided, opening, closing, oneMore, oneLess, submitting, areaOf, Hub, Request, Open, Submit, Close, slotOf, isLent, onEntry, step, steps, openJobs, countOpen}
 use Rattle.hub.specs.Requests as requests
 use Rattle.hub.specs.Histories.{entryOf}
 use Rattle.hub.specs.Promises.{Fresh, IsCount, Stored}
 use Rattle.hub.specs.declared.jobs.Entry.{Entry}
 use Rattle.hub.proofs.Reaching.{Made, choice, beside, outThen, areaThen, seen, same-lent}
-use Rattle.hub.proofs.Deciding.{Here, here, sixteen, Passed, Decision, refused, done, decision}
+use Rattle.hub.proofs.Deciding.{open-gives, close-gives, Here, here, sixteen, Passed, Decision, refused, done, decision}
 use Rattle.hub.proofs.Holding.{under-open}
 use Rattle.hub.proofs.Answering.{answers}
 use Rattle.hub.proofs.Counts.{one, one-le}
@@ -99,29 +98,10 @@ module _ (h : Hub) (slot : ℕ) (count : IsCount h) (sixteen : length (h .table)
 
 -- ---- and 32 never comes
 
--- a check that passes, or stops with another code
-abbrev Calm : Checked Unit → Type 0
-Calm m = Gives (λ _. Unit) (λ code at. eqb code 32 ≡ false) m
+abbrev Calm : ℕ → ℕ → Type 0
+Calm code at = eqb code 32 ≡ false
 
-open-beside : (key : ℕ) (d : Descriptor) (e : Entry) → Calm (mayOpen key d 1 e)
-unfolding mayOpen
-open-beside key d e =
-    gives-where (not (damaged e)) 12 _ refl λ _.
-    gives-where (not (isOpenUnder e key)) 1 _ refl λ _.
-    gives-where (not (isOpen e)) 13 _ refl λ _.
-    gives-where (not (isOldKey e key)) 14 _ refl λ _.
-    gives-where (hold (descriptorFields d)) 15 _ refl λ _.
-    value tt
-
-close-beside : (key : ℕ) (e : Entry) → Calm (mayClose key 1 e)
-unfolding mayClose
-close-beside key e =
-    gives-where (not (damaged e)) 12 _ refl λ _.
-    gives-where (not (not (isOpen e) && eqb (e .key) key && ltb 0 key)) 1 _ refl λ _.
-    gives-where (isOpenUnder e key) 16 _ refl λ _.
-    value tt
-
-calm-answer : {m : Checked Unit} (e f : Entry) → Calm m → decided e m (out f (answer 0 0 0)) .answer .code ≡ 32 → ⊥
+calm-answer : {P : Unit → Type 0} {m : Checked Unit} (e f : Entry) → Gives P Calm m → decided e m (out f (answer 0 0 0)) .answer .code ≡ 32 → ⊥
 calm-answer e f (value _) is = let z : _≡_ {A = ℕ} 0 32 = is in omega arith
 calm-answer e f (refusal {code} {at} other) is = eqb-false code 32 other is
 
@@ -153,11 +133,11 @@ module _ (widths : List ℕ) (h : Hub) (count : IsCount h) where
 
   not-32 : (r : Request) → Here widths h r → onEntry widths h r (entryOf h (slotOf r)) .answer .code ≡ 32 → ⊥
   unfolding opening closing
-  not-32 (Open slot key d) x is = calm-answer (entryOf h slot) _ (open-beside key d (entryOf h slot)) (rw (open-calm h slot count (sixteen widths h (Open slot key d) (x .lent)) (x .low) key d) at is)
+  not-32 (Open slot key d) x is = calm-answer (entryOf h slot) _ (open-gives key d 1 (entryOf h slot) refl refl refl refl refl (λ no. absurd (true≢false no))) (rw (open-calm h slot count (sixteen widths h (Open slot key d) (x .lent)) (x .low) key d) at is)
   not-32 (Submit slot key number part) x is =
       let its = answers widths h (Submit slot key number part) .code in
       true≢false (sym (rw (x .answers, is) at its))
-  not-32 (Close slot key) x is = calm-answer (entryOf h slot) _ (close-beside key (entryOf h slot)) (rw (close-calm h slot count (sixteen widths h (Close slot key) (x .lent)) (x .low) key) at is)
+  not-32 (Close slot key) x is = calm-answer (entryOf h slot) _ (close-gives key 1 (entryOf h slot) refl refl refl (λ no. absurd (true≢false no))) (rw (close-calm h slot count (sixteen widths h (Close slot key) (x .lent)) (x .low) key) at is)
 
   never : (r : Request) → step widths h r .answer .code ≡ 32 → ⊥
   unfolding step
@@ -180,9 +160,10 @@ module _ (widths : List ℕ) (h : Hub) (count : IsCount h) where
   its-count (Submit slot key number part) x passed =
       let long = sixteen widths h (Submit slot key number part) (x .lent) in
       let e = entryOf h slot in
-      let f = goneOn e (interpreted widths (e .descriptor) (e .state) part (areaOf (h .records) slot) .state) in
-      let c = counted h slot count long (x .low) f in
-      rw (x .leaves, passed .0, passed .2) (omega arith)
+      let f = submitting widths key number part (areaOf (h .records) slot) e .entry in
+      let same : isOpen f ≡ isOpen e = rw (passed .0, passed .2) in
+      let c : countOpen (set (h .table) slot f) + one e ≡ h .stored + one e = rw same at (counted h slot count long (x .low) f) in
+      rw (x .leaves) (omega arith)
   its-count (Close slot key) x passed =
       let long = sixteen widths h (Close slot key) (x .lent) in
       let e = entryOf h slot in
