@@ -17,7 +17,7 @@ from changes import CHANGES
 
 ERROR = re.compile(r'/specs/C(\d+)/(\w+)\.antt:\d+:\d+: error: (?:`([^`]+)`: )?(.*)')
 # what is said of a theorem whose two sides are not the same
-DIFFER = ('expected type', 'computed as far as they go, the two types differ')
+DIFFER = ('expected type', 'computed as far as they go, the two types differ', 'as printed, the two types differ')
 AT_ONCE = 40
 
 
