@@ -14,5 +14,7 @@ write thin halviruso_open entries::open_entry "table: &mut [Entry], open_jobs: &
 write thin halviruso_submit --requires --sizes "records=65536, widths=1024" submit::submit_slot \
     "table: &mut [Entry], records: &mut [u8], widths: &[u16], slot: u32, key: u32, number: u32, part: &[u8]" "records, widths, slot, key, number, part" \
     "Submit slot key number (part .now)"
+write thin halviruso_take --requires --sizes "records=65536" take::take_slot \
+    "table: &mut [Entry], records: &mut [u8], slot: u32, key: u32, total: u64" "records, slot, key, total" "Take slot key total"
 write thin halviruso_close entries::close_entry "table: &mut [Entry], open_jobs: &mut u32, slot: u32, key: u32" "open_jobs, key" "Close slot key"
 write scan halviruso_count entries::tally "table: &[Entry]" "tallied" "countOpen" Counts

@@ -47,6 +47,7 @@ fn fresh_entry() -> Entry
         descriptor,
         state,
         next: 1,
+        taken: 0,
     }
 }
 

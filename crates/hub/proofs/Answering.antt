@@ -21,14 +21,14 @@ use Rattle.part.proofs.Checks.{first-of, second-of, Gives, value, refusal, OfCo
 use Rattle.part.proofs.Fits.{Coded}
 use Rattle.part.proofs.Kept.{cut-leaves}
 use Rattle.part.proofs.Pointing.{points-inside, part-points}
-use Rattle.hub.specs.Requests.{maySubmit, out, decided, partTaken, opening, closing, submitting, areaOf, Hub, Request, Open, Submit, Close, slotOf, isLent, onEntry, step}
+use Rattle.hub.specs.Requests.{maySubmit, out, decided, partPlaced, opening, closing, submitting, taking, areaOf, Hub, Request, Open, Submit, Take, Close, slotOf, isLent, onEntry, step}
 use Rattle.hub.specs.Requests as requests
 use Rattle.hub.specs.Histories.{entryOf}
 use Rattle.hub.specs.Promises.{codesOf, OfTheTable, Answered}
 use Rattle.hub.specs.declared.jobs.Entry.{Entry}
 use Rattle.hub.proofs.Slots.{own-length}
 use Rattle.hub.proofs.Ranging.{in-range}
-use Rattle.hub.proofs.Deciding.{SubmitTests, open-gives, submit-gives, close-gives, Here, here, whole, lent-widths}
+use Rattle.hub.proofs.Deciding.{SubmitTests, open-gives, submit-gives, take-gives, close-gives, Here, here, whole, lent-widths}
 use Rattle.hub.proofs.Holding.{awaits}
 
 -- one of the request's own codes that is no part's, with no offset
@@ -47,7 +47,7 @@ plain r code at its =
       inside = λ c. absurd (true≢false (sym c ∙ not-true (code ∈ 20 to 29) (second-of (code ∈ codesOf r) (not (code ∈ 20 to 29)) both)));
     }
 
--- ---- open and close
+-- ---- open, take and close
 
 decided-plain : {P : Unit → Type 0} {m : Checked Unit} (r : Request) (e f : Entry) → Its r 0 0 → Gives P (Its r) m → OfTheTable r (decided e m (out f (answer 0 0 0)) .answer)
 decided-plain r e f nought (value _) = plain r 0 0 nought
@@ -101,7 +101,7 @@ module _ (widths : List ℕ) (h : Hub) where
       long = own-length (h .records) slot (whole widths h slot key number part x) (x .low)
 
       go : (m : Checked Unit) → Gives (λ _. SubmitTests key number e) (Its (Submit slot key number part)) m
-          → OfTheTable (Submit slot key number part) (decided e m (partTaken e (interpreted widths (e .descriptor) (e .state) part (areaOf (h .records) slot))) .answer)
+          → OfTheTable (Submit slot key number part) (decided e m (partPlaced e (interpreted widths (e .descriptor) (e .state) part (areaOf (h .records) slot))) .answer)
       go (fine _) (value tests) =
           let waits = awaits key number e tests in
           let ranges = in-range e (waits .is) (waits .undamaged) in
@@ -109,19 +109,22 @@ module _ (widths : List ℕ) (h : Hub) where
       go (fault code at) (refusal its) = plain (Submit slot key number part) code at its
 
   its-answered : (r : Request) → Here widths h r → OfTheTable r (onEntry widths h r (entryOf h (slotOf r)) .answer)
-  unfolding opening closing
+  unfolding opening taking closing
   its-answered (Open slot key d) x = decided-plain (Open slot key d) (entryOf h slot) _ refl (open-gives {Q = Its (Open slot key d)} key d (h .stored) (entryOf h slot) refl refl refl refl refl (λ _. refl))
   its-answered (Submit slot key number part) x = submit-answered slot key number part x
+  its-answered (Take slot key total) x = decided-plain (Take slot key total) (entryOf h slot) _ refl (take-gives {Q = Its (Take slot key total)} key total (areaOf (h .records) slot) (entryOf h slot) refl refl refl refl)
   its-answered (Close slot key) x = decided-plain (Close slot key) (entryOf h slot) _ refl (close-gives {Q = Its (Close slot key)} key (h .stored) (entryOf h slot) refl refl refl (λ _. refl))
 
   wrong : (r : Request) → OfTheTable r (requests.refusal 10)
   wrong (Open slot key d) = plain _ 10 0 refl
   wrong (Submit slot key number part) = plain _ 10 0 refl
+  wrong (Take slot key total) = plain _ 10 0 refl
   wrong (Close slot key) = plain _ 10 0 refl
 
   above : (r : Request) → OfTheTable r (requests.refusal 11)
   above (Open slot key d) = plain _ 11 0 refl
   above (Submit slot key number part) = plain _ 11 0 refl
+  above (Take slot key total) = plain _ 11 0 refl
   above (Close slot key) = plain _ 11 0 refl
 
 pub answers : Answered

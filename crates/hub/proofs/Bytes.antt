@@ -1,4 +1,4 @@
--- Bytes spliced into some others, byte by byte: outside of them all are as they were. So it is for a record put into a slot's area.
+-- Bytes spliced into some others, byte by byte: outside of them all are as they were. So it is for a record put into a slot's area, and for bytes moved down in it.
 -- Assumes nothing.
 use Prim.Native.Nat.{ℕ, _+_, _-_, _*_, _≤_, _<_}
 use mathlib.Core.Path.{_≡_, refl, sym, _∙_, ap}
@@ -6,13 +6,14 @@ use mathlib.Core.Bool.{Bool, true, false}
 use mathlib.Core.Logic.{_⊎_, inl, inr}
 use mathlib.Core.List.{List, _++_, append-assoc}
 use native.Mathlib.Omega.{arith}
-use lib.ListN.{length, getD, take, drop, length-append, List·getD-append}
+use lib.ListN.{length, getD, take, drop, length-append, length-take, length-drop, List·getD-append}
 use lib.Seq.{length-take-le, take-at, getD-append-add, getD-take, getD-drop}
 use lib.Dec.{ltb}
 use borrow.Author.Tests.{ltb-true, ltb-false}
+use Rattle.part.specs.Reading.{between}
 use Rattle.part.specs.Records.{spliced}
 use Rattle.part.proofs.Areas.{spliced-length}
-use Rattle.hub.specs.Requests.{areaOf, withArea}
+use Rattle.hub.specs.Requests.{movedDown, areaOf, withArea}
 use Rattle.hub.proofs.Slots.{own-length}
 
 -- below a number, or from it on: so many past it
@@ -64,6 +65,23 @@ module _ (l : List ℕ) (at : ℕ) (x : List ℕ) (fits : at + length x ≤ leng
       let n = length-take-le at l (omega arith) in
       let m = length-append (take at l) x in
       take-at (take at l ++ x) (drop (at + length x) l) (at + length x) (omega arith)
+
+-- ---- bytes moved down to the start
+
+-- some of the bytes are no more than all
+pub between-fits : (l : List ℕ) (first past : ℕ) → 0 + length (between l first past) ≤ length l
+between-fits l first past = let a = length-take (past - first) (drop first l) in let b = length-drop first l in omega arith
+
+pub moved-length : (l : List ℕ) (first past : ℕ) → length (movedDown l first past) ≡ length l
+moved-length l first past = spliced-length l 0 (between l first past) (between-fits l first past)
+
+-- where they stand, now at the start
+pub moved-front : (l : List ℕ) (first past : ℕ) → first ≤ past → past ≤ length l → take (past - first) (movedDown l first past) ≡ between l first past
+moved-front l first past h k =
+    let a = length-take (past - first) (drop first l) in
+    let b = length-drop first l in
+    ap (λ (n : ℕ). take n (movedDown l first past)) (let z : past - first ≡ 0 + length (between l first past) = omega arith in z)
+    ∙ up-to l 0 (between l first past) (between-fits l first past)
 
 -- ---- some bytes put into a slot's area
 

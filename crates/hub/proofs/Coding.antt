@@ -1,45 +1,51 @@
 -- A check that came to a code: a request is refused with it, or done where it is 0.
 -- Assumes nothing.
-use Prim.Native.Nat.{ℕ, zero, suc, _≤_}
+use Prim.Native.Nat.{ℕ, zero, suc, _-_, _≤_}
 use mathlib.Core.Path.{_≡_, refl, sym, ap}
 use mathlib.Core.Bool.{Bool, true, false}
 use mathlib.Core.List.{List}
 use lib.ListN.{length}
 use native.Mathlib.Omega.{arith}
+use borrow.Author.Tests.{ltb-true, leb-true}
 use Rattle.part.specs.Numbers.{if_then_else_}
 use Rattle.part.specs.Checks.{Checked, fine}
 use Rattle.part.specs.Part.{areaAfter}
 use Rattle.part.proofs.Areas.{area-length}
 use Rattle.part.proofs.Checks.{value-of}
-use Rattle.hub.specs.Requests.{out, refusal, decided, passes, maySubmit, areaTaken}
+use Rattle.hub.specs.Entries.{allWritten}
+use Rattle.hub.specs.Requests.{out, refusal, decided, passes, maySubmit, areaFilled, mayTake, movedDown, areaLeft}
 use Rattle.hub.specs.Code.{coded}
 use Rattle.hub.specs.declared.jobs.Entry.{Entry}
 use Rattle.hub.specs.declared.jobs.Out.{Out}
-use Rattle.hub.proofs.Deciding.{submit-tests}
+use Rattle.hub.proofs.Bytes.{moved-length}
+use Rattle.hub.proofs.Deciding.{submit-tests, take-tests}
+use Rattle.hub.proofs.Ranging.{used-low}
 use Rattle.hub.proofs.Holding.{awaits}
 
 pub stopped : (e : Entry) (n : ℕ) (m : Checked Unit) (done : Out) → coded n ≡ m → (n ≡ 0 → ⊥) → out e (refusal n) ≡ decided e m done
 stopped e zero m done is h = absurd (h refl)
 stopped e (suc n) m done is h = ap (λ (k : Checked Unit). decided e k done) is
 
--- the stored number after an open or a close that was refused
-pub stopped-number : (stored other n : ℕ) (m : Checked Unit) → coded n ≡ m → (n ≡ 0 → ⊥) → stored ≡ (if passes m then other else stored)
-stopped-number stored other zero m is h = absurd (h refl)
-stopped-number stored other (suc n) m is h = rw (sym is)
-
--- the area after a part that was refused
-pub stopped-area : (widths area : List ℕ) (key number : ℕ) (part : List ℕ) (e : Entry) (n : ℕ) → coded n ≡ maySubmit key number e → (n ≡ 0 → ⊥) → area ≡ areaTaken widths key number part area e
-unfolding areaTaken
-stopped-area widths area key number part e zero is h = absurd (h refl)
-stopped-area widths area key number part e (suc n) is h = rw (sym is)
+-- what is lent beside the entry, a number or an area, is as it was
+pub stopped-same : {A : Type 0} (was other : A) (n : ℕ) (m : Checked Unit) → coded n ≡ m → (n ≡ 0 → ⊥) → was ≡ (if passes m then other else was)
+stopped-same was other zero m is h = absurd (h refl)
+stopped-same was other (suc n) m is h = rw (sym is)
 
 -- an area keeps its length
-pub taken-length : (widths area : List ℕ) (key number : ℕ) (part : List ℕ) (e : Entry) → length (areaTaken widths key number part area e) ≡ length area
-unfolding areaTaken
-taken-length widths area key number part e = go (passes (maySubmit key number e))
+pub filled-length : (widths area : List ℕ) (key number : ℕ) (part : List ℕ) (e : Entry) → length (areaFilled widths key number part area e) ≡ length area
+unfolding areaFilled
+filled-length widths area key number part e = go (passes (maySubmit key number e))
   where
     go : (t : Bool) → length (if t then areaAfter widths (e .descriptor) (e .state) part area else area) ≡ length area
     go true = area-length widths (e .descriptor) (e .state) part area
+    go false = refl
+
+pub left-length : (key total : ℕ) (area : List ℕ) (e : Entry) → length (areaLeft key total area e) ≡ length area
+unfolding areaLeft
+left-length key total area e = go (passes (mayTake key total area e))
+  where
+    go : (t : Bool) → length (if t then movedDown area (total - e .taken) (e .state .used) else area) ≡ length area
+    go true = moved-length area (total - e .taken) (e .state .used)
     go false = refl
 
 -- a part that may be taken has a number that can grow
@@ -47,3 +53,17 @@ pub next-low : (key number : ℕ) (e : Entry) → maySubmit key number e ≡ fin
 next-low key number e is =
     let t = awaits key number e (value-of (maySubmit key number e) (submit-tests key number e) is) in
     omega (arith, t .isNext, t .most)
+
+-- what may be taken is there, and its total is one of 32 bits
+pub record Takes (total : ℕ) (e : Entry) : Type 0 where
+  pub above : e .taken ≤ total
+  pub within : total - e .taken ≤ e .state .used
+  pub inside : e .state .used ≤ 4096
+  pub low : total ≤ 4294967295
+
+pub takes : (key total : ℕ) (area : List ℕ) (e : Entry) → mayTake key total area e ≡ fine tt → Takes total e
+takes key total area e is =
+    let t = value-of (mayTake key total area e) (take-tests key total area e) is in
+    let more = ltb-true (e .taken) total (t .more) in
+    let within = leb-true total (allWritten e) (t .within) in
+    record { above = omega arith; within = omega arith; inside = used-low e key (t .undamaged) (t .under); low = leb-true total 4294967295 (t .low) }

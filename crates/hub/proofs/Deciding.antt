@@ -1,22 +1,23 @@
 -- A request is refused and changes nothing, or its checks have passed: then the step is what the rules make of its entry and its area.
 -- Assumes nothing.
-use Prim.Native.Nat.{ℕ, _<_}
+use Prim.Native.Nat.{ℕ, _-_, _<_}
 use mathlib.Core.Path.{_≡_, refl, _∙_}
 use mathlib.Core.Bool.{Bool, true, false, not, _&&_}
 use mathlib.Core.List.{List}
 use native.Mathlib.Omega.{arith}
-use lib.ListN.{length, set}
+use lib.ListN.{length, set, take}
 use lib.Seq.{set-getD, getD-set-same}
 use lib.Dec.{ltb, leb, eqb}
 use borrow.Author.Tests.{lt-ltb, ltb-true, eqb-true, eqb-false, not-true}
 use Rattle.part.specs.Checks.{Checked, fine, fault, require}
 use Rattle.part.specs.Ranges.{upTo, _to_, _∈_, hold, descriptorFields}
+use Rattle.part.specs.Records.{boundaries}
 use Rattle.part.specs.Part.{interpreted}
 use Rattle.part.specs.declared.shapes.Descriptor.{Descriptor}
 use Rattle.part.proofs.Checks.{first-of, second-of, Gives, value, refusal, gives-test, gives-where, gives-so}
 use Rattle.part.proofs.Refusals.{untouched}
-use Rattle.hub.specs.Entries.{isOpen, isOpenUnder, isOldKey, damaged, fresh}
-use Rattle.hub.specs.Requests.{mayOpen, judged, maySubmit, mayClose, opening, closing, oneMore, oneLess, submitting, areaTaken, areaOf, isTable, isStore, Hub, hub, Request, Open, Submit, Close, slotOf, isLent, onEntry, onRecords, onStored, step}
+use Rattle.hub.specs.Entries.{isOpen, isOpenUnder, isOldKey, damaged, allWritten, fresh}
+use Rattle.hub.specs.Requests.{mayOpen, judged, maySubmit, isOneOf, mayTake, mayClose, opening, closing, oneMore, oneLess, submitting, areaFilled, taking, areaLeft, areaOf, isTable, isStore, Hub, hub, Request, Open, Submit, Take, Close, slotOf, isLent, onEntry, onRecords, onStored, step}
 use Rattle.hub.specs.Histories.{entryOf}
 use Rattle.hub.specs.declared.jobs.Entry.{Entry}
 use Rattle.hub.proofs.Slots.{with-same}
@@ -38,6 +39,14 @@ pub record SubmitTests (key number : ℕ) (e : Entry) : Type 0 where
   pub good : (number ∈ 1 to 65535) ≡ true
   pub isNew : leb (e .next) number ≡ true
   pub isNear : leb number (e .next) ≡ true
+
+pub record TakeTests (key total : ℕ) (area : List ℕ) (e : Entry) : Type 0 where
+  pub undamaged : damaged e ≡ false
+  pub under : isOpenUnder e key ≡ true
+  pub more : ltb (e .taken) total ≡ true
+  pub low : leb total 4294967295 ≡ true
+  pub within : leb total (allWritten e) ≡ true
+  pub met : isOneOf (total - e .taken) (boundaries (take (e .state .used) area)) ≡ true
 
 pub record CloseTests (key stored : ℕ) (e : Entry) : Type 0 where
   pub under : isOpenUnder e key ≡ true
@@ -69,6 +78,16 @@ module _ {Q : ℕ → ℕ → Type 0} where
       gives-where (leb (e .next) number) 1 _ q1 λ isNew.
       gives-so (λ _ isNear. record { undamaged = not-true (damaged e) undamaged; under = under; good = good; isNew = isNew; isNear = isNear }) (λ _ _ q. q) (gives-test (leb number (e .next)) 18 q18)
 
+  pub take-gives : (key total : ℕ) (area : List ℕ) (e : Entry) → Q 12 0 → Q 16 0 → Q 1 0 → Q 30 0 → Gives (λ _. TakeTests key total area e) Q (mayTake key total area e)
+  unfolding mayTake
+  take-gives key total area e q12 q16 q1 q30 =
+      gives-where (not (damaged e)) 12 _ q12 λ undamaged.
+      gives-where (isOpenUnder e key) 16 _ q16 λ under.
+      gives-where (ltb (e .taken) total) 1 _ q1 λ more.
+      gives-where (leb total 4294967295) 30 _ q30 λ low.
+      gives-where (leb total (allWritten e)) 30 _ q30 λ within.
+      gives-so (λ _ met. record { undamaged = not-true (damaged e) undamaged; under = under; more = more; low = low; within = within; met = met }) (λ _ _ q. q) (gives-test (isOneOf (total - e .taken) (boundaries (take (e .state .used) area))) 30 q30)
+
   pub close-gives : (key stored : ℕ) (e : Entry) → Q 12 0 → Q 1 0 → Q 16 0 → ((stored ∈ 1 to 16) ≡ false → Q 32 0) → Gives (λ _. CloseTests key stored e) Q (mayClose key stored e)
   unfolding mayClose
   close-gives key stored e q12 q1 q16 q32 =
@@ -82,6 +101,9 @@ open-tests key d stored e = open-gives key d stored e refl refl refl refl refl (
 
 pub submit-tests : (key number : ℕ) (e : Entry) → Gives (λ _. SubmitTests key number e) Refuses (maySubmit key number e)
 submit-tests key number e = submit-gives key number e refl refl refl refl refl
+
+pub take-tests : (key total : ℕ) (area : List ℕ) (e : Entry) → Gives (λ _. TakeTests key total area e) Refuses (mayTake key total area e)
+take-tests key total area e = take-gives key total area e refl refl refl refl
 
 pub close-tests : (key stored : ℕ) (e : Entry) → Gives (λ _. CloseTests key stored e) Refuses (mayClose key stored e)
 close-tests key stored e = close-gives key stored e refl refl refl (λ _. refl)
@@ -99,23 +121,26 @@ module _ (widths : List ℕ) (h : Hub) where
   unfolding step
   here r lent low = let is = lt-ltb (slotOf r) 16 low in record { lent = lent; low = low; answers = rw (lent, is); leaves = rw (lent, is) }
 
-  sizes : isStore (h .table) (h .records) widths ≡ true → (length (h .table) ≡ 16) × (length (h .records) ≡ 65536)
+  sizes : isStore (h .table) (h .records) ≡ true → (length (h .table) ≡ 16) × (length (h .records) ≡ 65536)
   sizes lent =
       let a = isTable (h .table) in
       let b = eqb (length (h .records)) 65536 in
-      let both = first-of (a && b) (eqb (length widths) 1024) lent in
-      (eqb-true _ 16 (first-of a b both), eqb-true _ 65536 (second-of a b both))
+      (eqb-true _ 16 (first-of a b lent), eqb-true _ 65536 (second-of a b lent))
 
   pub sixteen : (r : Request) → isLent widths h r ≡ true → length (h .table) ≡ 16
   sixteen (Open slot key d) lent = eqb-true (length (h .table)) 16 lent
-  sixteen (Submit slot key number part) lent = sizes lent .0
+  sixteen (Submit slot key number part) lent = sizes (first-of (isStore (h .table) (h .records)) (eqb (length widths) 1024) lent) .0
+  sixteen (Take slot key total) lent = sizes lent .0
   sixteen (Close slot key) lent = eqb-true (length (h .table)) 16 lent
 
   pub whole : (slot key number : ℕ) (part : List ℕ) → Here (Submit slot key number part) → length (h .records) ≡ 65536
-  whole slot key number part x = sizes (x .lent) .1
+  whole slot key number part x = sizes (first-of (isStore (h .table) (h .records)) (eqb (length widths) 1024) (x .lent)) .1
+
+  pub take-whole : (slot key total : ℕ) → Here (Take slot key total) → length (h .records) ≡ 65536
+  take-whole slot key total x = sizes (x .lent) .1
 
   pub lent-widths : (slot key number : ℕ) (part : List ℕ) → Here (Submit slot key number part) → length widths ≡ 1024
-  lent-widths slot key number part x = eqb-true (length widths) 1024 (second-of (isTable (h .table) && eqb (length (h .records)) 65536) (eqb (length widths) 1024) (x .lent))
+  lent-widths slot key number part x = eqb-true (length widths) 1024 (second-of (isStore (h .table) (h .records)) (eqb (length widths) 1024) (x .lent))
 
   pub there : (r : Request) → Here r → entryOf (step widths h r .after) (slotOf r) ≡ onEntry widths h r (entryOf h (slotOf r)) .entry
   there r x =
@@ -130,6 +155,7 @@ module _ (widths : List ℕ) (h : Hub) where
   Passed (Submit slot key number part) =
       (maySubmit key number (entryOf h slot) ≡ fine tt) × SubmitTests key number (entryOf h slot)
       × (interpreted widths (entryOf h slot .descriptor) (entryOf h slot .state) part (areaOf (h .records) slot) .answer .code ≡ 0)
+  Passed (Take slot key total) = (mayTake key total (areaOf (h .records) slot) (entryOf h slot) ≡ fine tt) × TakeTests key total (areaOf (h .records) slot) (entryOf h slot)
   Passed (Close slot key) = (mayClose key (h .stored) (entryOf h slot) ≡ fine tt) × CloseTests key (h .stored) (entryOf h slot)
 
   pub data Decision (r : Request) : Type 0 where
@@ -157,7 +183,7 @@ module _ (widths : List ℕ) (h : Hub) where
       go (fault code at) is (refusal q) = refused (rw (x .answers, is) q) (x .leaves ∙ rw is (back slot _ refl))
 
   submit-decided : (slot key number : ℕ) (part : List ℕ) → Here (Submit slot key number part) → Decision (Submit slot key number part)
-  unfolding submitting areaTaken
+  unfolding submitting areaFilled
   submit-decided slot key number part x = go (maySubmit key number e) refl (submit-tests key number e)
     where
       e : Entry
@@ -179,9 +205,24 @@ module _ (widths : List ℕ) (h : Hub) where
       go (fine _) is (value tests) = by-part is tests (eqb partCode 0) refl
       go (fault code at) is (refusal q) = refused (rw (x .answers, is) q) (x .leaves ∙ rw is (back slot _ (with-same (h .records) slot)))
 
+  take-decided : (slot key total : ℕ) → Here (Take slot key total) → Decision (Take slot key total)
+  unfolding taking areaLeft
+  take-decided slot key total x = go (mayTake key total area e) refl (take-tests key total area e)
+    where
+      e : Entry
+      e = entryOf h slot
+
+      area : List ℕ
+      area = areaOf (h .records) slot
+
+      go : (m : Checked Unit) → mayTake key total area e ≡ m → Gives (λ _. TakeTests key total area e) Refuses m → Decision (Take slot key total)
+      go (fine _) is (value tests) = done (rw (x .answers, is)) x (is, tests)
+      go (fault code at) is (refusal q) = refused (rw (x .answers, is) q) (x .leaves ∙ rw is (back slot _ (with-same (h .records) slot)))
+
   here-decided : (r : Request) → Here r → Decision r
   here-decided (Open slot key d) x = open-decided slot key d x
   here-decided (Submit slot key number part) x = submit-decided slot key number part x
+  here-decided (Take slot key total) x = take-decided slot key total x
   here-decided (Close slot key) x = close-decided slot key x
 
   pub decision : (r : Request) → Decision r

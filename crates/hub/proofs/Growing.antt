@@ -8,18 +8,19 @@ use native.Mathlib.Nat.{add-zero}
 use lib.ListN.{length, take, length-append}
 use Rattle.part.specs.Checks.{Checked, fine, fault}
 use Rattle.part.specs.Reading.{cut}
-use Rattle.part.specs.Records.{allBytes, spliced}
+use Rattle.part.specs.Records.{Item, allBytes, spliced}
 use Rattle.part.specs.States.{withUsed}
 use Rattle.part.specs.Place.{Effect, place}
 use Rattle.part.specs.Part.{elementsBy}
 use Rattle.part.specs.declared.shapes.Descriptor.{Descriptor}
 use Rattle.part.specs.declared.shapes.State.{State}
+use Rattle.part.proofs.Checks.{same-value}
 use Rattle.part.proofs.Parts.{_then_, allBytes-join}
 use Rattle.part.proofs.Accepting.{Accepted, then-then}
 use Rattle.part.proofs.Rooms.{shifted, elements-free, free-of}
 use Rattle.hub.specs.Entries.{entry, firstState, goneOn}
-use Rattle.hub.specs.Accounts.{Numbered, Job, withPart, partsFrom}
-use Rattle.hub.specs.Promises.{counting, Kept}
+use Rattle.hub.specs.Accounts.{Numbered, Job, withPart, partsFrom, byTheRules}
+use Rattle.hub.specs.Promises.{counting, Kept, ReadInAll}
 use Rattle.hub.specs.declared.jobs.Entry.{Entry}
 use Rattle.hub.proofs.Bytes.{up-to}
 
@@ -47,16 +48,20 @@ module _ (widths : List ℕ) (d : Descriptor) where
       go (fine e) k = rw (k (e .state)) (then-then (fine e) (λ t. partsFrom widths d t ps) (λ t. free t p))
       go (fault code at) k = refl
 
-module _ (widths : List ℕ) (j : Job) (e : Entry) (area : List ℕ) (number : ℕ) (part : List ℕ) (f : Effect) where
-  pub part-kept : e .next ≡ number → Accepted widths (e .descriptor) (e .state) part area f → Kept widths j 1 e area
-      → Kept widths (withPart j (record { number = number; part = part })) 1 (goneOn e (f .state)) (spliced area (e .state .used) (allBytes (f .items)))
-  part-kept next taken k =
-      let p : Numbered = record { number = number; part = part } in
-      let n = length (j .parts) in
+module _ (widths : List ℕ) (j : Job) (e : Entry) (area : List ℕ) (number : ℕ) (part : List ℕ) (f : Effect) (taken : Accepted widths (e .descriptor) (e .state) part area f) (k : Kept widths j 1 e area) where
+  abbrev p : Numbered
+  p = record { number = number; part = part }
+
+  abbrev bytes : List ℕ
+  bytes = allBytes (f .items)
+
+  -- what the rules give for one part more
+  abbrev more : Effect
+  more = record { state = withUsed (f .state) (k .result .state .used); items = k .result .items ++ f .items }
+
+  more-by-rules : byTheRules widths (withPart j p) ≡ fine more
+  more-by-rules =
       let s = k .result .state in
-      let bytes = allBytes (f .items) in
-      let long = length-append (j .parts) (p ∷ []) in
-      let was = ap (λ (x : Entry). x .next) (k .itsEntry) in
       let itsState = ap (λ (x : Entry). x .state) (k .itsEntry) in
       let itsDescriptor = ap (λ (x : Entry). x .descriptor) (k .itsEntry) in
       let passed : free widths (j .descriptor) s part ≡ fine (shifted (s .used) f) =
@@ -65,6 +70,31 @@ module _ (widths : List ℕ) (j : Job) (e : Entry) (area : List ℕ) (number : �
       ∙ elements-free widths (e .descriptor) (e .state) (s .used) (cut (e .state .chain) part)
       ∙ rw (free-of widths (e .descriptor) (e .state) (cut (e .state .chain) part) f (taken .passed))
       in
+      ap (partsFrom widths (j .descriptor) (firstState (j .descriptor))) (map-append (λ (x : Numbered). x .part) (j .parts) (p ∷ []))
+      ∙ parts-on widths (j .descriptor) (firstState (j .descriptor)) (map (λ x. x .part) (j .parts)) part
+      ∙ rw (k .byRules, passed)
+
+  -- what a printer finds then: its bytes behind the others
+  found-more : take (f .state .used) (spliced area (e .state .used) bytes) ≡ take (e .state .used) area ++ bytes
+  found-more = ap (λ (m : ℕ). take m (spliced area (e .state .used) bytes)) (taken .grows) ∙ up-to area (e .state .used) bytes (taken .fits)
+
+  -- none of it read yet
+  pub part-read : ReadInAll widths j (take (e .state .used) area) → ReadInAll widths (withPart j p) (take (f .state .used) (spliced area (e .state .used) bytes))
+  part-read x = record {
+    result = more;
+    byRules = more-by-rules;
+    read = x .read;
+    unread = x .unread ++ f .items;
+    inAll = sym (append-assoc (x .read) (x .unread) (f .items)) ∙ ap (λ (t : List Item). t ++ f .items) (x .inAll ∙ ap (λ (t : Effect). t .items) (same-value (sym (x .byRules) ∙ k .byRules)));
+    itsTaken = x .itsTaken;
+    itsFound = found-more ∙ ap (λ (t : List ℕ). t ++ bytes) (x .itsFound) ∙ sym (allBytes-join (x .unread) (f .items));
+  }
+
+  pub part-kept : e .next ≡ number → Kept widths (withPart j p) 1 (goneOn e (f .state)) (spliced area (e .state .used) bytes)
+  part-kept next =
+      let n = length (j .parts) in
+      let long = length-append (j .parts) (p ∷ []) in
+      let was = ap (λ (x : Entry). x .next) (k .itsEntry) in
       let grows = taken .grows in
       let used = k .itsUsed in
       let join = allBytes-join (k .result .items) (f .items) in
@@ -75,18 +105,14 @@ module _ (widths : List ℕ) (j : Job) (e : Entry) (area : List ℕ) (number : �
             ∙ ap (λ (m : ℕ). counting 1 n ++ m ∷ []) (let z : number ≡ 1 + n = omega arith in z)
             ∙ sym (count-on 1 n)
             ∙ ap (counting 1) (let z : suc n ≡ length (j .parts ++ p ∷ []) = omega arith in z);
-        result = record { state = withUsed (f .state) (s .used); items = k .result .items ++ f .items };
-        byRules =
-            ap (partsFrom widths (j .descriptor) (firstState (j .descriptor))) (map-append (λ (x : Numbered). x .part) (j .parts) (p ∷ []))
-            ∙ parts-on widths (j .descriptor) (firstState (j .descriptor)) (map (λ x. x .part) (j .parts)) part
-            ∙ rw (k .byRules, passed);
+        result = more;
+        byRules = more-by-rules;
         itsEntry =
             ap (λ (x : Entry). goneOn x (f .state)) (k .itsEntry)
-            ∙ ap (λ (m : ℕ). entry (j .key) 1 (j .descriptor) (f .state) (m + 1)) (sym long);
+            ∙ ap (λ (m : ℕ). entry (j .key) 1 (j .descriptor) (f .state) (m + 1) (length (j .taken))) (sym long);
         itsUsed = let z = ap length join ∙ length-append (allBytes (k .result .items)) bytes in omega arith;
         itsRecords =
-            ap (λ (m : ℕ). j .taken ++ take m (spliced area (e .state .used) bytes)) grows
-            ∙ ap (λ (t : List ℕ). j .taken ++ t) (up-to area (e .state .used) bytes (taken .fits))
+            ap (λ (t : List ℕ). j .taken ++ t) found-more
             ∙ sym (append-assoc (j .taken) (take (e .state .used) area) bytes)
             ∙ ap (λ (t : List ℕ). t ++ bytes) (k .itsRecords)
             ∙ sym join;

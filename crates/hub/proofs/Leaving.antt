@@ -4,31 +4,37 @@ use Prim.Native.Nat.{ℕ, _-_}
 use mathlib.Core.Path.{_≡_, refl, sym}
 use mathlib.Core.List.{List}
 use native.Mathlib.Omega.{arith}
-use lib.ListN.{getD}
+use lib.ListN.{getD, take, drop, length-take}
 use lib.Dec.{leb}
-use borrow.Author.Tests.{leb-true, eqb-false}
+use borrow.Author.Tests.{ltb-true, leb-true, eqb-false}
+use Rattle.part.specs.Reading.{between}
 use Rattle.part.specs.Records.{allBytes}
 use Rattle.part.proofs.Accepting.{accepted}
 use Rattle.part.proofs.Checks.{first-of}
-use Rattle.hub.specs.Requests.{opening, closing, oneMore, oneLess, submitting, areaTaken, areaOf, Hub, Request, Open, Submit, Close, slotOf, step}
+use Rattle.hub.specs.Entries.{allWritten}
+use Rattle.hub.specs.Requests.{opening, closing, oneMore, oneLess, submitting, areaFilled, taking, areaLeft, areaOf, Hub, Request, Open, Submit, Take, Close, slotOf, step}
 use Rattle.hub.specs.Histories.{entryOf}
 use Rattle.hub.specs.Promises.{Writes, Stays, Counted, OnlyItsOwn, Untouched}
-use Rattle.hub.proofs.Bytes.{area-outside}
+use Rattle.hub.proofs.Bytes.{area-outside, between-fits}
 use Rattle.hub.proofs.Reaching.{table-size, records-size, other-entry}
-use Rattle.hub.proofs.Deciding.{Here, there, whole, Passed, Decision, refused, done, decision}
+use Rattle.hub.proofs.Deciding.{Here, there, whole, take-whole, Passed, Decision, refused, done, decision}
 
 module _ (widths : List ℕ) (h : Hub) where
   -- its own entry
   entry-left : (r : Request) → Here widths h r → Passed widths h r → Stays r (entryOf h (slotOf r)) (entryOf (step widths h r .after) (slotOf r))
-  unfolding opening closing submitting
+  unfolding opening closing submitting taking
   entry-left (Open slot key d) x passed = tt
-  entry-left (Submit slot key number part) x passed = rw (there widths h (Submit slot key number part) x, passed .0, passed .2) (refl, refl, refl)
-  entry-left (Close slot key) x passed = rw (there widths h (Close slot key) x, passed .0) (refl, refl, refl, refl)
+  entry-left (Submit slot key number part) x passed = rw (there widths h (Submit slot key number part) x, passed .0, passed .2) (refl, refl, refl, refl)
+  entry-left (Take slot key total) x passed =
+      let e = entryOf h slot in
+      let within = leb-true total (allWritten e) (passed .1 .within) in
+      rw (there widths h (Take slot key total) x, passed .0) (refl, omega arith)
+  entry-left (Close slot key) x passed = rw (there widths h (Close slot key) x, passed .0) (refl, refl, refl, refl, refl)
 
   -- the record bytes
   bytes-left : (r : Request) → Here widths h r → Passed widths h r → (at : ℕ)
       → (Writes r (entryOf h (slotOf r)) (entryOf (step widths h r .after) (slotOf r)) at → ⊥) → getD (step widths h r .after .records) at 0 ≡ getD (h .records) at 0
-  unfolding submitting areaTaken
+  unfolding submitting areaFilled taking areaLeft
   bytes-left (Open slot key d) x passed at apart = rw (x .leaves)
   bytes-left (Submit slot key number part) x passed at apart =
       let e = entryOf h slot in
@@ -37,6 +43,15 @@ module _ (widths : List ℕ) (h : Hub) where
       rw (x .leaves, passed .0, taken .itsArea)
       (area-outside (h .records) slot (whole widths h slot key number part x) (x .low) (e .state .used) (allBytes (f .items)) (taken .fits) at
       λ a b. apart (a, rw (there widths h (Submit slot key number part) x, passed .0, passed .2, taken .itsState) (omega arith)))
+  bytes-left (Take slot key total) x passed at apart =
+      let e = entryOf h slot in
+      let area = areaOf (h .records) slot in
+      let more = ltb-true (e .taken) total (passed .1 .more) in
+      let unread = between area (total - e .taken) (e .state .used) in
+      let size = length-take (e .state .used - (total - e .taken)) (drop (total - e .taken) area) in
+      rw (x .leaves, passed .0)
+      (area-outside (h .records) slot (take-whole widths h slot key total x) (x .low) 0 unread (between-fits area (total - e .taken) (e .state .used)) at
+      λ a b. apart (omega arith, rw (there widths h (Take slot key total) x, passed .0) (omega arith)))
   bytes-left (Close slot key) x passed at apart = rw (x .leaves)
 
   -- the stored number
@@ -44,6 +59,7 @@ module _ (widths : List ℕ) (h : Hub) where
   unfolding oneMore oneLess
   number-left (Open slot key d) x passed = rw (x .leaves, passed .0)
   number-left (Submit slot key number part) x passed = rw (x .leaves)
+  number-left (Take slot key total) x passed = rw (x .leaves)
   number-left (Close slot key) x passed =
       let some = leb-true 1 (h .stored) (first-of (leb 1 (h .stored)) (leb (h .stored) 16) (passed .1 .falls)) in
       rw (x .leaves, passed .0) (omega arith)

@@ -1,10 +1,13 @@
 pub mod Slots
 pub mod Bytes
+pub mod Moving
 pub mod Reaching
 pub mod Deciding
 pub mod Leaving
 pub mod Ranging
+pub mod Boundaries
 pub mod Growing
+pub mod Draining
 pub mod Holding
 pub mod Printing
 pub mod Answering

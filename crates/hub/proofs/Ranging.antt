@@ -1,19 +1,19 @@
 -- An entry's numbers are in range just when its mark, its descriptor, its state and its next part are. What is done to an undamaged entry leaves it so.
 -- Assumes nothing.
-use Prim.Native.Nat.{ℕ, _+_, _≤_}
+use Prim.Native.Nat.{ℕ, _+_, _-_, _≤_}
 use mathlib.Core.Path.{_≡_, refl}
 use mathlib.Core.Bool.{Bool, true, false, _&&_}
 use mathlib.Core.List.{List, [], _∷_, _++_}
 use native.Mathlib.Omega.{arith}
-use lib.Dec.{leb}
+use lib.Dec.{leb, eqb}
 use borrow.Author.Tests.{leb-true, le-leb, not-false}
 use Rattle.part.specs.Numbers.{origin, last}
-use Rattle.part.specs.Ranges.{Field, upTo, _to_, _∈_, hold, descriptorFields, stateFields}
+use Rattle.part.specs.Ranges.{Field, _within_, upTo, _to_, _∈_, hold, descriptorFields, stateFields}
 use Rattle.part.specs.declared.shapes.Descriptor.{Descriptor}
 use Rattle.part.specs.declared.shapes.State.{State}
 use Rattle.part.proofs.Checks.{first-of, second-of}
-use Rattle.part.proofs.Fields.{held}
-use Rattle.hub.specs.Entries.{isOpen, entryFields, damaged, firstState, opened, goneOn}
+use Rattle.part.proofs.Fields.{held, changed}
+use Rattle.hub.specs.Entries.{isOpen, isOpenUnder, entryFields, damaged, allWritten, firstState, opened, goneOn, drained}
 use Rattle.hub.specs.declared.jobs.Entry.{Entry}
 
 hold-join : (a b : List Field) → hold (a ++ b) ≡ (hold a && hold b)
@@ -79,3 +79,15 @@ opened-undamaged key d h = undamaged (opened key d) (record { mark = refl; descr
 pub gone-on-undamaged : (e : Entry) (s : State) → InRange e → hold (stateFields s) ≡ true → e .next ≤ 65535 → damaged (goneOn e s) ≡ false
 gone-on-undamaged e s r h low =
     undamaged (goneOn e s) (record { mark = r .mark; descriptor = r .descriptor; state = h; next = rw (le-leb 1 (e .next + 1) (omega arith)) (le-leb (e .next + 1) 65536 (omega arith)) })
+
+-- the bytes used of a job are no more than an area has
+pub used-low : (e : Entry) (key : ℕ) → damaged e ≡ false → isOpenUnder e key ≡ true → e .state .used ≤ 4096
+unfolding stateFields
+used-low e key whole under = leb-true (e .state .used) 4096 (held (stateFields (e .state)) 11 (in-range e (first-of (isOpen e) (eqb (e .key) key) under) whole .state))
+
+pub drained-undamaged : (e : Entry) (total : ℕ) → InRange e → e .taken ≤ total → damaged (drained e total) ≡ false
+unfolding stateFields
+drained-undamaged e total r above =
+    let low = leb-true (e .state .used) 4096 (held (stateFields (e .state)) 11 (r .state)) in
+    let left = allWritten e - total in
+    undamaged (drained e total) (record { mark = r .mark; descriptor = r .descriptor; state = changed (stateFields (e .state)) 11 (left within upTo 4096) (r .state) (le-leb left 4096 (omega arith)); next = r .next })

@@ -1,6 +1,6 @@
 -- A request sees of what is lent the lengths, its slot's entry and its slot's area, and the stored number; it puts back an entry and an area there, and a number.
 -- Assumes nothing.
-use Prim.Native.Nat.{ℕ}
+use Prim.Native.Nat.{ℕ, _-_}
 use mathlib.Core.Path.{_≡_, refl, sym, _∙_}
 use mathlib.Core.Bool.{Bool, true, false}
 use mathlib.Core.List.{List, [], _∷_}
@@ -12,10 +12,11 @@ use Rattle.part.specs.Part.{areaAfter}
 use Rattle.part.specs.declared.shapes.Answer.{Answer}
 use Rattle.part.proofs.Areas.{area-length}
 use Rattle.hub.specs.Entries.{fresh}
-use Rattle.hub.specs.Requests.{maySubmit, passes, opening, closing, submitting, areaTaken, areaOf, withArea, refusal, Hub, hub, Request, Open, Submit, Close, slotOf, Reply, isLent, onEntry, onRecords, onStored, elseOf, step, steps}
+use Rattle.hub.specs.Requests.{maySubmit, mayTake, passes, opening, closing, submitting, areaFilled, taking, movedDown, areaLeft, areaOf, withArea, refusal, Hub, hub, Request, Open, Submit, Take, Close, slotOf, Reply, isLent, onEntry, onRecords, onStored, elseOf, step, steps}
 use Rattle.hub.specs.Histories.{entryOf}
 use Rattle.hub.specs.declared.jobs.Entry.{Entry}
 use Rattle.hub.specs.declared.jobs.Out.{Out}
+use Rattle.hub.proofs.Bytes.{moved-length}
 use Rattle.hub.proofs.Slots.{Fits, with-length, with-same, with-unseen}
 
 -- another number beside the same table
@@ -58,11 +59,13 @@ module _ (widths : List ℕ) where
   abbrev pub outThen : Request → Entry → List ℕ → ℕ → Out
   outThen (Open slot key d) e area stored = opening key d stored e
   outThen (Submit slot key number part) e area stored = submitting widths key number part area e
+  outThen (Take slot key total) e area stored = taking key total area e
   outThen (Close slot key) e area stored = closing key stored e
 
   abbrev pub areaThen : Request → Entry → List ℕ → List ℕ
   areaThen (Open slot key d) e area = area
-  areaThen (Submit slot key number part) e area = areaTaken widths key number part area e
+  areaThen (Submit slot key number part) e area = areaFilled widths key number part area e
+  areaThen (Take slot key total) e area = areaLeft key total area e
   areaThen (Close slot key) e area = area
 
   abbrev pub made : Bool → Request → Entry → List ℕ → ℕ → Made
@@ -80,11 +83,13 @@ module _ (widths : List ℕ) where
   out-is : (h : Hub) (r : Request) (e : Entry) → onEntry widths h r e ≡ outThen r e (areaOf (h .records) (slotOf r)) (h .stored)
   out-is h (Open slot key d) e = refl
   out-is h (Submit slot key number part) e = refl
+  out-is h (Take slot key total) e = refl
   out-is h (Close slot key) e = refl
 
   records-are : (h : Hub) (r : Request) (e : Entry) → onRecords widths h r e ≡ withArea (h .records) (slotOf r) (areaThen r e (areaOf (h .records) (slotOf r)))
   records-are h (Open slot key d) e = sym (with-same (h .records) slot)
   records-are h (Submit slot key number part) e = refl
+  records-are h (Take slot key total) e = refl
   records-are h (Close slot key) e = sym (with-same (h .records) slot)
 
   pub step-is : (h : Hub) (r : Request) → step widths h r ≡ replied h (slotOf r) (seen h r) (number h r)
@@ -97,12 +102,17 @@ module _ (widths : List ℕ) where
   -- ---- an area keeps its length
 
   then-length : (r : Request) (e : Entry) (area : List ℕ) → length (areaThen r e area) ≡ length area
-  unfolding areaTaken
+  unfolding areaFilled areaLeft
   then-length (Open slot key d) e area = refl
   then-length (Submit slot key number part) e area = go (passes (maySubmit key number e))
     where
       go : (t : Bool) → length (if t then areaAfter widths (e .descriptor) (e .state) part area else area) ≡ length area
       go true = area-length widths (e .descriptor) (e .state) part area
+      go false = refl
+  then-length (Take slot key total) e area = go (passes (mayTake key total area e))
+    where
+      go : (t : Bool) → length (if t then movedDown area (total - e .taken) (e .state .used) else area) ≡ length area
+      go true = moved-length area (total - e .taken) (e .state .used)
       go false = refl
   then-length (Close slot key) e area = refl
 
@@ -119,6 +129,7 @@ module _ (widths : List ℕ) where
   pub same-lent : (h g : Hub) (r : Request) → length (g .table) ≡ length (h .table) → length (g .records) ≡ length (h .records) → isLent widths g r ≡ isLent widths h r
   same-lent h g (Open slot key d) a b = rw a
   same-lent h g (Submit slot key number part) a b = rw (a, b)
+  same-lent h g (Take slot key total) a b = rw (a, b)
   same-lent h g (Close slot key) a b = rw a
 
   module _ (h : Hub) (a : ℕ) (e : Entry) (area : List ℕ) (stored : ℕ) (f : Fits (h .records) a area) where

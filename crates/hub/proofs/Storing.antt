@@ -11,14 +11,15 @@ use lib.Dec.{ltb, leb, eqb}
 use borrow.Author.Tests.{ltb-true, le-leb, eq-eqb, eqb-false}
 use Rattle.part.specs.Numbers.{if_then_else_}
 use Rattle.part.specs.Checks.{Checked}
+use Rattle.part.specs.Ranges.{_∈_}
 use Rattle.part.specs.Part.{answer}
 use Rattle.part.specs.declared.shapes.Descriptor.{Descriptor}
 use Rattle.part.proofs.Checks.{Gives, value, refusal}
 use Rattle.hub.specs.Entries.{isOpen, opened, closed, fresh}
-use Rattle.hub.specs.Requests.{mayOpen, mayClose, out, decided, opening, closing, oneMore, oneLess, submitting, areaOf, Hub, Request, Open, Submit, Close, slotOf, isLent, onEntry, step, steps, openJobs, countOpen}
+use Rattle.hub.specs.Requests.{mayOpen, mayClose, out, decided, opening, closing, oneMore, oneLess, submitting, taking, areaOf, Hub, Request, Open, Submit, Take, Close, slotOf, isLent, onEntry, onStored, step, steps, openJobs, countOpen}
 use Rattle.hub.specs.Requests as requests
 use Rattle.hub.specs.Histories.{entryOf}
-use Rattle.hub.specs.Promises.{Fresh, IsCount, Stored}
+use Rattle.hub.specs.Promises.{codesOf, Fresh, IsCount, Stored}
 use Rattle.hub.specs.declared.jobs.Entry.{Entry}
 use Rattle.hub.proofs.Reaching.{Made, choice, beside, outThen, areaThen, seen, same-lent}
 use Rattle.hub.proofs.Deciding.{open-gives, close-gives, Here, here, sixteen, Passed, Decision, refused, done, decision}
@@ -112,6 +113,7 @@ module _ (widths : List ℕ) (h : Hub) (count : IsCount h) where
   unfolding opening closing
   out-calm (Open slot key d) lent low area = rw (open-calm h slot count (sixteen widths h (Open slot key d) lent) low key d)
   out-calm (Submit slot key number part) lent low area = refl
+  out-calm (Take slot key total) lent low area = refl
   out-calm (Close slot key) lent low area = rw (close-calm h slot count (sixteen widths h (Close slot key) lent) low key)
 
   pub seen-calm : (r : Request) → seen widths h r ≡ seen widths (beside h 1) r
@@ -131,12 +133,15 @@ module _ (widths : List ℕ) (h : Hub) (count : IsCount h) where
       go true a false b = refl
       go false a u b = refl
 
+  -- 32 is none of its codes
+  not-its : (r : Request) → Here widths h r → (32 ∈ codesOf r) ≡ false → onEntry widths h r (entryOf h (slotOf r)) .answer .code ≡ 32 → ⊥
+  not-its r x none is = let its = answers widths h r .code in true≢false (sym (rw (x .answers, is) at its) ∙ none)
+
   not-32 : (r : Request) → Here widths h r → onEntry widths h r (entryOf h (slotOf r)) .answer .code ≡ 32 → ⊥
   unfolding opening closing
   not-32 (Open slot key d) x is = calm-answer (entryOf h slot) _ (open-gives key d 1 (entryOf h slot) refl refl refl refl refl (λ no. absurd (true≢false no))) (rw (open-calm h slot count (sixteen widths h (Open slot key d) (x .lent)) (x .low) key d) at is)
-  not-32 (Submit slot key number part) x is =
-      let its = answers widths h (Submit slot key number part) .code in
-      true≢false (sym (rw (x .answers, is) at its))
+  not-32 (Submit slot key number part) x is = not-its (Submit slot key number part) x refl is
+  not-32 (Take slot key total) x is = not-its (Take slot key total) x refl is
   not-32 (Close slot key) x is = calm-answer (entryOf h slot) _ (close-gives key 1 (entryOf h slot) refl refl refl (λ no. absurd (true≢false no))) (rw (close-calm h slot count (sixteen widths h (Close slot key) (x .lent)) (x .low) key) at is)
 
   never : (r : Request) → step widths h r .answer .code ≡ 32 → ⊥
@@ -151,19 +156,22 @@ module _ (widths : List ℕ) (h : Hub) (count : IsCount h) where
 
   -- ---- a request that is done changes the number as it changes the count
 
+  -- a job that stays open
+  same-count : (r : Request) → Here widths h r → isOpen (onEntry widths h r (entryOf h (slotOf r)) .entry) ≡ isOpen (entryOf h (slotOf r)) → onStored widths h r (entryOf h (slotOf r)) ≡ h .stored → IsCount (step widths h r .after)
+  same-count r x same number =
+      let e = entryOf h (slotOf r) in
+      let f = onEntry widths h r e .entry in
+      let c : countOpen (set (h .table) (slotOf r) f) + one e ≡ h .stored + one e = rw same at (counted h (slotOf r) count (sixteen widths h r (x .lent)) (x .low) f) in
+      rw (x .leaves, number) (omega arith)
+
   its-count : (r : Request) → Here widths h r → Passed widths h r → IsCount (step widths h r .after)
-  unfolding opening closing submitting oneMore oneLess
+  unfolding opening closing submitting taking oneMore oneLess
   its-count (Open slot key d) x passed =
       let long = sixteen widths h (Open slot key d) (x .lent) in
       let c : countOpen (set (h .table) slot (opened key d)) + 0 ≡ h .stored + 1 = rw (passed .1 .shut) at (counted h slot count long (x .low) (opened key d)) in
       rw (x .leaves, passed .0) (omega arith)
-  its-count (Submit slot key number part) x passed =
-      let long = sixteen widths h (Submit slot key number part) (x .lent) in
-      let e = entryOf h slot in
-      let f = submitting widths key number part (areaOf (h .records) slot) e .entry in
-      let same : isOpen f ≡ isOpen e = rw (passed .0, passed .2) in
-      let c : countOpen (set (h .table) slot f) + one e ≡ h .stored + one e = rw same at (counted h slot count long (x .low) f) in
-      rw (x .leaves) (omega arith)
+  its-count (Submit slot key number part) x passed = same-count (Submit slot key number part) x (rw (passed .0, passed .2)) refl
+  its-count (Take slot key total) x passed = same-count (Take slot key total) x (rw (passed .0)) refl
   its-count (Close slot key) x passed =
       let long = sixteen widths h (Close slot key) (x .lent) in
       let e = entryOf h slot in

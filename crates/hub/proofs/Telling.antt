@@ -6,7 +6,7 @@ use mathlib.Core.Path.{_≡_, refl, sym, _∙_, ap}
 use mathlib.Core.Bool.{Bool, true, false, not, _&&_, _||_}
 use mathlib.Core.List.{List, [], _∷_, map}
 use native.Mathlib.Omega.{arith}
-use lib.ListN.{length}
+use lib.ListN.{length, take, length-take}
 use lib.Dec.{ltb, leb, eqb}
 use borrow.Author.Tests.{leb-true, leb-false, ltb-true, ltb-false, eqb-true, eqb-false, eq-eqb, le-leb, lt-leb, lt-ltb, le-ltb, ne-eqb}
 use Rattle.part.specs.Numbers.{if_then_else_}
@@ -14,26 +14,28 @@ use Rattle.part.specs.Checks.{Checked, fine, fault, refuse, require, _>>=_, _>>
 use Rattle.part.specs.States.{withUsed}
 use Rattle.part.specs.Ranges.{_to_, _∈_, hold, descriptorFields, stateFields}
 use Rattle.part.specs.Reading.{cut}
-use Rattle.part.specs.Records.{allBytes}
+use Rattle.part.specs.Records.{Item, allBytes, boundaries}
 use Rattle.part.specs.Place.{Effect}
 use Rattle.part.specs.Part.{elements, admitted, outcome, answer, answered, interpreted}
 use Rattle.part.specs.declared.shapes.Descriptor.{Descriptor}
 use Rattle.part.specs.declared.shapes.State.{State}
 use Rattle.part.specs.declared.shapes.Answer.{Answer}
 use Rattle.part.specs.declared.shapes.Interpreted.{Interpreted}
-use Rattle.part.proofs.Checks.{first-of}
-use Rattle.hub.specs.Entries.{isOpen, isOpenUnder, damaged}
-use Rattle.hub.specs.Requests.{mayOpen, judged, maySubmit, mayClose, out, decided, partTaken, opening, closing, submitting, areaOf, refusal, Hub, Request, Open, Submit, Close, slotOf, isLent, onEntry, step, steps}
-use Rattle.hub.specs.Accounts.{Job, Account, unused, running, ended, lastKey, isRunning, byTheRules, isOneOf, toOpen, toClose, goesOn, behind, toPart, toSubmit, tells, isWellLent, told, asAnswer}
-use Rattle.hub.specs.Histories.{entryOf, account}
-use Rattle.hub.specs.Promises.{counting, Fresh, IsCount, Kept, Agrees, Tells}
+use Rattle.part.proofs.Checks.{first-of, same-value}
+use Rattle.hub.specs.Entries.{isOpen, isOpenUnder, damaged, allWritten}
+use Rattle.hub.specs.Requests.{mayOpen, judged, maySubmit, isOneOf, mayTake, mayClose, out, decided, partPlaced, opening, closing, submitting, taking, areaOf, refusal, Hub, Request, Open, Submit, Take, Close, slotOf, isLent, onEntry, step, steps}
+use Rattle.hub.specs.Accounts.{Job, Account, unused, running, ended, lastKey, isRunning, byTheRules, placesFrom, toOpen, toClose, goesOn, behind, toPart, toSubmit, toTotal, toTake, tells, isWellLent, told, asAnswer}
+use Rattle.hub.specs.Histories.{entryOf, printed, account}
+use Rattle.hub.specs.Promises.{counting, Fresh, IsCount, Kept, Agrees, ReadInAll, ReadOf, Tells}
 use Rattle.hub.specs.declared.jobs.Entry.{Entry}
 use Rattle.hub.specs.declared.jobs.Out.{Out}
 use Rattle.hub.proofs.Slots.{own-length}
 use Rattle.hub.proofs.Reaching.{outThen, steps-lent}
-use Rattle.hub.proofs.Deciding.{here, whole, lent-widths}
+use Rattle.hub.proofs.Deciding.{here, whole, take-whole, lent-widths}
 use Rattle.hub.proofs.Ranging.{in-range}
-use Rattle.hub.proofs.Holding.{holds}
+use Rattle.hub.proofs.Boundaries.{are-places, places-past, places-behind, places-shifted}
+use Rattle.hub.proofs.Draining.{its-taken}
+use Rattle.hub.proofs.Holding.{sound}
 use Rattle.hub.proofs.Storing.{out-calm, steps-count, start-count}
 
 -- a check decides the answer
@@ -189,7 +191,7 @@ module _ (widths : List ℕ) where
     shut-told shut = rw (undamaged, shut)
 
     -- a check, and then the part's own answer
-    taken-says : (m : Checked Unit) (r : Interpreted) (told : Checked Answer) → r .answer ≡ asAnswer told → decided e m (partTaken e r) .answer ≡ asAnswer (m >> told)
+    taken-says : (m : Checked Unit) (r : Interpreted) (told : Checked Answer) → r .answer ≡ asAnswer told → decided e m (partPlaced e r) .answer ≡ asAnswer (m >> told)
     taken-says (fine _) r told same = same
     taken-says (fault code at) r told same = refl
 
@@ -213,6 +215,64 @@ module _ (widths : List ℕ) where
     submit-told (running j) k long table = running-told j k long table
     submit-told (ended j) k long table = shut-told (ap isOpen (k .itsEntry))
 
+  -- ---- a take
+
+  module _ (e : Entry) (area : List ℕ) (undamaged : damaged e ≡ false) (key total : ℕ) where
+    -- a place between the records that are left is one between all
+    module _ (j : Job) (k : Kept widths j 1 e area) (x : ReadInAll widths j (take (e .state .used) area)) (long : length area ≡ 4096) where
+      met-told : e .taken < total → isOneOf (total - e .taken) (boundaries (take (e .state .used) area)) ≡ isOneOf total (placesFrom 0 (x .result .items))
+      met-told above =
+          let said = its-taken widths j e area total k x in
+          let its = x .itsFound in
+          let size = ap length (x .itsTaken) in
+          let low : length (allBytes (x .unread)) < 65536 = let a = length-take (e .state .used) area in let b = ap length its in omega arith in
+          let more = total - e .taken in
+          ap (λ (t : List ℕ). isOneOf more (boundaries t)) its
+          ∙ ap (isOneOf more) (are-places (x .unread) low)
+          ∙ sym (places-shifted (e .taken) 0 more (x .unread))
+          ∙ ap (λ (n : ℕ). isOneOf n (placesFrom (e .taken + 0) (x .unread))) (let z : e .taken + more ≡ total = omega arith in z)
+          ∙ ap (λ (n : ℕ). isOneOf total (placesFrom n (x .unread))) (let z : e .taken + 0 ≡ 0 + length (allBytes (x .read)) = omega arith in z)
+          ∙ sym (places-behind 0 total (x .read) (x .unread) (omega arith))
+          ∙ ap (λ (t : List Item). isOneOf total (placesFrom 0 t)) (x .inAll)
+
+      past-told : allWritten e < total → isOneOf total (placesFrom 0 (x .result .items)) ≡ false
+      past-told above =
+          let said = its-taken widths j e area total k x in
+          let used = k .itsUsed in
+          let same = ap (λ (f : Effect). length (allBytes (f .items))) (same-value (sym (x .byRules) ∙ k .byRules)) in
+          places-past 0 total (x .result .items) (omega arith)
+
+      total-told : (require (ltb (e .taken) total) 1 >> (require (leb total 4294967295) 30 >> (require (leb total (allWritten e)) 30 >> require (isOneOf (total - e .taken) (boundaries (take (e .state .used) area))) 30))) >> fine (answer 0 0 0) ≡ toTotal widths j total
+      unfolding toTotal
+      total-told = rw (x .byRules, ← (its-taken widths j e area total k x)) (go (ltb (e .taken) total) refl)
+        where
+          within : e .taken < total → (t : Bool) → leb total (allWritten e) ≡ t
+              → ((require t 30 >> require (isOneOf (total - e .taken) (boundaries (take (e .state .used) area))) 30) >> fine (answer 0 0 0)) ≡ (require (isOneOf total (placesFrom 0 (x .result .items))) 30 >> fine (answer 0 0 0))
+          within above true is = rw (met-told above)
+          within above false is = rw (past-told (leb-false total (allWritten e) is))
+
+          low : e .taken < total → (t : Bool)
+              → ((require t 30 >> (require (leb total (allWritten e)) 30 >> require (isOneOf (total - e .taken) (boundaries (take (e .state .used) area))) 30)) >> fine (answer 0 0 0)) ≡ (require t 30 >> (require (isOneOf total (placesFrom 0 (x .result .items))) 30 >> fine (answer 0 0 0)))
+          low above true = within above (leb total (allWritten e)) refl
+          low above false = refl
+
+          go : (t : Bool) → ltb (e .taken) total ≡ t
+              → ((require t 1 >> (require (leb total 4294967295) 30 >> (require (leb total (allWritten e)) 30 >> require (isOneOf (total - e .taken) (boundaries (take (e .state .used) area))) 30))) >> fine (answer 0 0 0)) ≡ (require t 1 >> (require (leb total 4294967295) 30 >> (require (isOneOf total (placesFrom 0 (x .result .items))) 30 >> fine (answer 0 0 0))))
+          go true is = low (ltb-true (e .taken) total is) (leb total 4294967295)
+          go false is = refl
+
+    take-told : (a : Account) → Agrees widths a e area → ReadOf widths a (take (e .state .used) area) → length area ≡ 4096 → taking key total area e .answer ≡ asAnswer (toTake widths a key total)
+    unfolding taking mayTake
+    take-told unused k x long = rw (undamaged, k .0)
+    take-told (running j) k x long =
+        decided-says e _ (answer 0 0 0) (mayTake key total area e)
+        ∙ rw (undamaged, ap isOpen (k .itsEntry), ap (λ (f : Entry). f .key) (k .itsEntry)) (go (eqb (j .key) key) _ _ (total-told j k x long))
+      where
+        go : (t : Bool) (c : Checked Unit) (n : Checked Answer) → (c >> fine (answer 0 0 0)) ≡ n → asAnswer ((require t 16 >> c) >> fine (answer 0 0 0)) ≡ asAnswer (require t 16 >> n)
+        go true c n same = ap asAnswer same
+        go false c n same = refl
+    take-told (ended j) k x long = rw (undamaged, ap isOpen (k .itsEntry))
+
   -- ---- any request, at any time
 
   module _ (now : Hub) (count : IsCount now) (a : Account) where
@@ -221,14 +281,17 @@ module _ (widths : List ℕ) where
         → outThen widths r (entryOf now (slotOf r)) (areaOf (now .records) (slotOf r)) (now .stored) .answer ≡ outThen widths r (entryOf now (slotOf r)) (areaOf (now .records) (slotOf r)) 1 .answer
     calm r lent low = ap (λ (o : Out). o .answer) (out-calm widths now count r lent low (areaOf (now .records) (slotOf r)))
 
-    its-told : (r : Request) → isLent widths now r ≡ true → slotOf r < 16 → Agrees widths a (entryOf now (slotOf r)) (areaOf (now .records) (slotOf r)) → damaged (entryOf now (slotOf r)) ≡ false
+    its-told : (r : Request) → isLent widths now r ≡ true → slotOf r < 16 → Agrees widths a (entryOf now (slotOf r)) (areaOf (now .records) (slotOf r)) → ReadOf widths a (printed now (slotOf r)) → damaged (entryOf now (slotOf r)) ≡ false
         → onEntry widths now r (entryOf now (slotOf r)) .answer ≡ asAnswer (tells widths a r)
-    its-told (Open slot key d) lent low agrees undamaged = calm (Open slot key d) lent low ∙ open-told a (entryOf now slot) (areaOf (now .records) slot) agrees undamaged key d
-    its-told (Submit slot key number part) lent low agrees undamaged =
+    its-told (Open slot key d) lent low agrees reads undamaged = calm (Open slot key d) lent low ∙ open-told a (entryOf now slot) (areaOf (now .records) slot) agrees undamaged key d
+    its-told (Submit slot key number part) lent low agrees reads undamaged =
         let x = here widths now (Submit slot key number part) lent low in
         let long = own-length (now .records) slot (whole widths now slot key number part x) low in
         submit-told (entryOf now slot) (areaOf (now .records) slot) undamaged key number part a agrees long (lent-widths widths now slot key number part x)
-    its-told (Close slot key) lent low agrees undamaged = calm (Close slot key) lent low ∙ close-told a (entryOf now slot) (areaOf (now .records) slot) agrees undamaged key
+    its-told (Take slot key total) lent low agrees reads undamaged =
+        let x = here widths now (Take slot key total) lent low in
+        take-told (entryOf now slot) (areaOf (now .records) slot) undamaged key total a agrees reads (own-length (now .records) slot (take-whole widths now slot key total x) low)
+    its-told (Close slot key) lent low agrees reads undamaged = calm (Close slot key) lent low ∙ close-told a (entryOf now slot) (areaOf (now .records) slot) agrees undamaged key
 
 -- 10 and 11 before it
 lent-told : (t u : Bool) (a : Answer) (m : Checked Answer) → (t ≡ true → u ≡ true → a ≡ asAnswer m) → (if t then (if u then a else refusal 11) else refusal 10) ≡ asAnswer (require t 10 >> (require u 11 >> m))
@@ -240,6 +303,7 @@ lent-told false u a m k = refl
 well-lent : (widths : List ℕ) (h : Hub) → Fresh h → (r : Request) → isLent widths h r ≡ isWellLent widths h r
 well-lent widths h f (Open slot key d) = rw (f .sixteen)
 well-lent widths h f (Submit slot key number part) = rw (f .sixteen)
+well-lent widths h f (Take slot key total) = rw (f .sixteen)
 well-lent widths h f (Close slot key) = rw (f .sixteen)
 
 pub as-told : Tells
@@ -247,8 +311,8 @@ unfolding step told
 as-told widths h f nought before r =
     let now = steps widths h before in
     let a = account widths (slotOf r) h unused before in
-    let k = holds widths h f before (slotOf r) in
+    let k = sound widths h f before (slotOf r) in
     let count = steps-count widths h (start-count h f nought) before in
     let lent = steps-lent widths h before r ∙ well-lent widths h f r in
     rw lent (lent-told (isWellLent widths h r) (ltb (slotOf r) 16) (onEntry widths now r (entryOf now (slotOf r)) .answer) (tells widths a r)
-    (λ yes low. its-told widths now count a r (lent ∙ yes) (ltb-true (slotOf r) 16 low) (k .0) (k .1)))
+    (λ yes low. its-told widths now count a r (lent ∙ yes) (ltb-true (slotOf r) 16 low) (k .agrees) (k .reads) (k .undamaged)))

@@ -1,22 +1,22 @@
 -- The hub as a tenant sees it: a slot's account, which is what the answers alone have told of it, and the answer that it tells to the next request.
 use Prim.Native.Nat.{ℕ, _+_, _-_}
-use mathlib.Core.Bool.{Bool, true, false, not, _&&_, _||_}
+use mathlib.Core.Bool.{Bool, true, false, not, _&&_}
 use mathlib.Core.List.{List, [], _∷_, _++_, map}
-use lib.ListN.{length}
+use lib.ListN.{length, take}
 use lib.Dec.{ltb, leb, eqb}
 use Rattle.part.specs.Numbers.{if_then_else_}
 use Rattle.part.specs.Checks.{Checked, fine, fault, refuse, require, _>>=_, _>>_}
 use Rattle.part.specs.States.{withUsed}
 use Rattle.part.specs.Ranges.{_to_, _∈_, hold, descriptorFields}
 use Rattle.part.specs.Reading.{cut}
-use Rattle.part.specs.Records.{allBytes}
+use Rattle.part.specs.Records.{Item, bytesOf, allBytes}
 use Rattle.part.specs.Place.{Effect, effect, place}
 use Rattle.part.specs.Part.{elements, elementsBy, answer}
 use Rattle.part.specs.declared.shapes.Descriptor.{Descriptor}
 use Rattle.part.specs.declared.shapes.State.{State}
 use Rattle.part.specs.declared.shapes.Answer.{Answer}
 use Rattle.hub.specs.Entries.{firstState}
-use Rattle.hub.specs.Requests.{Hub, Request, Open, Submit, Close, slotOf}
+use Rattle.hub.specs.Requests.{isOneOf, Hub, Request, Open, Submit, Take, Close, slotOf}
 
 -- ---- what is known of a slot
 
@@ -24,8 +24,7 @@ pub record Numbered : Type 0 where
   pub number : ℕ
   pub part : List ℕ
 
--- an accepted open's key and descriptor, and the parts accepted since, in that order;
--- and the record bytes taken out of its area since: none, as no request takes any
+-- an accepted open's key and descriptor, the parts accepted since, in that order; and the record bytes taken out of its area since
 pub record Job : Type 0 where
   pub key : ℕ
   pub descriptor : Descriptor
@@ -52,19 +51,26 @@ isRunning (ended j) = false
 abbrev pub runsUnder : Account → ℕ → Bool
 runsUnder a key = isRunning a && eqb (lastKey a) key
 
--- ---- an accepted request, noted: where no job runs, no part is accepted and none closed
+-- ---- an accepted request, noted: where no job runs, no part is accepted, no byte taken and none closed
 
 abbrev pub withPart : Job → Numbered → Job
 withPart j p = record { key = j .key; descriptor = j .descriptor; parts = j .parts ++ p ∷ []; taken = j .taken }
 
-abbrev pub noted : Account → Request → Account
-noted a (Open slot key d) = running record { key = key; descriptor = d; parts = []; taken = [] }
-noted unused (Submit slot key number part) = unused
-noted (running j) (Submit slot key number part) = running (withPart j (record { number = number; part = part }))
-noted (ended j) (Submit slot key number part) = ended j
-noted unused (Close slot key) = unused
-noted (running j) (Close slot key) = ended j
-noted (ended j) (Close slot key) = ended j
+abbrev pub withTaken : Job → List ℕ → Job
+withTaken j bytes = record { key = j .key; descriptor = j .descriptor; parts = j .parts; taken = j .taken ++ bytes }
+
+-- beside the bytes that a printer found in the slot's area when it was sent: of a take those up to the total are what the printer has read
+abbrev pub noted : Account → Request → List ℕ → Account
+noted a (Open slot key d) found = running record { key = key; descriptor = d; parts = []; taken = [] }
+noted unused (Submit slot key number part) found = unused
+noted (running j) (Submit slot key number part) found = running (withPart j (record { number = number; part = part }))
+noted (ended j) (Submit slot key number part) found = ended j
+noted unused (Take slot key total) found = unused
+noted (running j) (Take slot key total) found = running (withTaken j (take (total - length (j .taken)) found))
+noted (ended j) (Take slot key total) found = ended j
+noted unused (Close slot key) found = unused
+noted (running j) (Close slot key) found = ended j
+noted (ended j) (Close slot key) found = ended j
 
 -- ---- what the rules give: some parts one after the other, each from the state that the one before it left; room is not asked
 
@@ -94,9 +100,10 @@ toOpen a key d = do
 unfoldable pub toClose : Account → ℕ → Checked Answer
 toClose a key = if runsUnder a key then fine (answer 0 0 0) else if eqb (lastKey a) key && ltb 0 key then refuse 1 else refuse 16
 
-abbrev pub isOneOf : ℕ → List ℕ → Bool
-isOneOf n [] = false
-isOneOf n (m ∷ ms) = eqb n m || isOneOf n ms
+-- the places between records that stand one behind the other: in front of the first, and behind each
+abbrev pub placesFrom : ℕ → List Item → List ℕ
+placesFrom at [] = at ∷ []
+placesFrom at (x ∷ xs) = at ∷ placesFrom (at + length (bytesOf x)) xs
 
 module _ (widths : List ℕ) where
   -- where a job goes on: the bytes used are those of its items, less those taken
@@ -125,15 +132,31 @@ module _ (widths : List ℕ) where
   toSubmit (running j) key number part = require (eqb (j .key) key) 16 >> toPart j number part
   toSubmit (ended j) key number part = refuse 16
 
+  -- a total at or below the one taken 1; above 4,294,967,295, or not between two of the records that the rules give for the accepted parts 30
+  unfoldable pub toTotal : Job → ℕ → Checked Answer
+  toTotal j total = do
+    require (ltb (length (j .taken)) total) 1
+    require (leb total 4294967295) 30
+    soFar ← byTheRules widths j
+    require (isOneOf total (placesFrom 0 (soFar .items))) 30
+    fine (answer 0 0 0)
+
+  abbrev pub toTake : Account → ℕ → ℕ → Checked Answer
+  toTake unused key total = refuse 16
+  toTake (running j) key total = require (eqb (j .key) key) 16 >> toTotal j total
+  toTake (ended j) key total = refuse 16
+
   abbrev pub tells : Account → Request → Checked Answer
   tells a (Open slot key d) = toOpen a key d
   tells a (Submit slot key number part) = toSubmit a key number part
+  tells a (Take slot key total) = toTake a key total
   tells a (Close slot key) = toClose a key
 
-  -- open and close are lent nothing else that has a length; a submit the record buffer of 65,536 bytes and the 1,024 widths
+  -- open and close are lent nothing else that has a length; a take the record buffer of 65,536 bytes, a submit this and the 1,024 widths
   abbrev pub isWellLent : Hub → Request → Bool
   isWellLent h (Open slot key d) = true
   isWellLent h (Submit slot key number part) = eqb (length (h .records)) 65536 && eqb (length widths) 1024
+  isWellLent h (Take slot key total) = eqb (length (h .records)) 65536
   isWellLent h (Close slot key) = true
 
   -- before it come 10, where something lent beside the table of 16 has another length, and 11 for a slot above 15

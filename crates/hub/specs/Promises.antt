@@ -1,5 +1,5 @@
 -- "What the promises have to say": the promises over the rules of `Requests`, each as one type.
--- Their proofs: Answering, Leaving, Storing, Swapping, Telling, Holding, Printing, Repeating.
+-- Their proofs: Answering, Leaving, Storing, Swapping, Telling, Holding, Draining, Printing, Repeating.
 use Prim.Native.Nat.{ℕ, zero, suc, _+_, _*_, _≤_, _<_}
 use mathlib.Core.Path.{_≡_}
 use mathlib.Core.Bool.{Bool, true, false, _&&_, _||_}
@@ -15,10 +15,10 @@ use Rattle.part.specs.Place.{Effect}
 use Rattle.part.specs.Drawing.{allOnSheet}
 use Rattle.part.specs.declared.shapes.Descriptor.{Descriptor}
 use Rattle.part.specs.declared.shapes.Answer.{Answer}
-use Rattle.hub.specs.Entries.{entry, isOpen, isOpenUnder, damaged}
-use Rattle.hub.specs.Requests.{areaOf, refusal, Hub, Request, Open, Submit, Close, slotOf, step, steps, countOpen}
+use Rattle.hub.specs.Entries.{entry, isOpen, isOpenUnder, damaged, allWritten}
+use Rattle.hub.specs.Requests.{areaOf, refusal, Hub, Request, Open, Submit, Take, Close, slotOf, step, steps, countOpen}
 use Rattle.hub.specs.Accounts.{Job, Account, unused, running, ended, byTheRules, told, asAnswer}
-use Rattle.hub.specs.Histories.{entryOf, account}
+use Rattle.hub.specs.Histories.{entryOf, printed, account}
 use Rattle.hub.specs.declared.jobs.Entry.{Entry}
 
 -- ---- ANSWERED (demand 1): any request, whatever is lent, is answered with a code of the table that is one of its own. Its two numbers are 0
@@ -28,17 +28,20 @@ use Rattle.hub.specs.declared.jobs.Entry.{Entry}
 abbrev pub codesOf : Request → Range
 codesOf (Open slot key d) = upTo 1 or 10 to 15 or only 32
 codesOf (Submit slot key number part) = upTo 1 or 10 to 12 or 16 to 29
+codesOf (Take slot key total) = upTo 1 or 10 to 12 or only 16 or only 30
 codesOf (Close slot key) = upTo 1 or 10 to 12 or only 16 or only 32
 
 abbrev pub isSubmit : Request → Bool
 isSubmit (Open slot key d) = false
 isSubmit (Submit slot key number part) = true
+isSubmit (Take slot key total) = false
 isSubmit (Close slot key) = false
 
 -- the bytes that a request sends
 abbrev pub partOf : Request → List ℕ
 partOf (Open slot key d) = []
 partOf (Submit slot key number part) = part
+partOf (Take slot key total) = []
 partOf (Close slot key) = []
 
 pub record OfTheTable (r : Request) (a : Answer) : Type 0 where
@@ -52,22 +55,27 @@ Answered = (widths : List ℕ) (h : Hub) (r : Request) → OfTheTable r (step wi
 
 -- ---- UNTOUCHED ("Every code but 0 .. leaves all that was lent untouched; with 0, everything not named stays"): any request, whatever is lent.
 
--- the record bytes that an accepted request writes: a submit those from `used` up to the new `used`, open and close none
+-- the record bytes that an accepted request writes: a submit those from `used` up to the new `used`, a take those from the area's start up to the new `used`,
+-- open and close none
 abbrev pub Writes : Request → Entry → Entry → ℕ → Type 0
 Writes (Open slot key d) e f at = ⊥
 Writes (Submit slot key number part) e f at = (4096 * slot + e .state .used ≤ at) × (at < 4096 * slot + f .state .used)
+Writes (Take slot key total) e f at = (4096 * slot ≤ at) × (at < 4096 * slot + f .state .used)
 Writes (Close slot key) e f at = ⊥
 
--- what stays of its own entry: with a submit key, mark and descriptor; with a close all but the open mark
+-- what stays of its own entry: with a submit key, mark, descriptor and the total taken; with a take all but the bytes used and the total taken, which is the one sent,
+-- and the bytes written in all; with a close all but the open mark
 abbrev pub Stays : Request → Entry → Entry → Type 0
 Stays (Open slot key d) e f = Unit
-Stays (Submit slot key number part) e f = (f .key ≡ e .key) × (f .mark ≡ e .mark) × (f .descriptor ≡ e .descriptor)
-Stays (Close slot key) e f = (f .key ≡ e .key) × (f .descriptor ≡ e .descriptor) × (f .state ≡ e .state) × (f .next ≡ e .next)
+Stays (Submit slot key number part) e f = (f .key ≡ e .key) × (f .mark ≡ e .mark) × (f .descriptor ≡ e .descriptor) × (f .taken ≡ e .taken)
+Stays (Take slot key total) e f = (f ≡ entry (e .key) (e .mark) (e .descriptor) (withUsed (e .state) (f .state .used)) (e .next) total) × (allWritten f ≡ allWritten e)
+Stays (Close slot key) e f = (f .key ≡ e .key) × (f .descriptor ≡ e .descriptor) × (f .state ≡ e .state) × (f .next ≡ e .next) × (f .taken ≡ e .taken)
 
--- what becomes of the stored number of open jobs: an open makes it one more, a close one less, and a submit leaves it
+-- what becomes of the stored number of open jobs: an open makes it one more, a close one less; submit and take leave it
 abbrev pub Counted : Request → ℕ → ℕ → Type 0
 Counted (Open slot key d) stored now = now ≡ stored + 1
 Counted (Submit slot key number part) stored now = now ≡ stored
+Counted (Take slot key total) stored now = now ≡ stored
 Counted (Close slot key) stored now = now + 1 ≡ stored
 
 pub record OnlyItsOwn (r : Request) (h now : Hub) : Type 0 where
@@ -138,7 +146,7 @@ pub record Kept (widths : List ℕ) (j : Job) (mark : ℕ) (e : Entry) (area : L
   pub inOrder : map (λ p. p .number) (j .parts) ≡ counting 1 (length (j .parts))
   pub result : Effect
   pub byRules : byTheRules widths j ≡ fine result
-  pub itsEntry : e ≡ entry (j .key) mark (j .descriptor) (withUsed (result .state) (e .state .used)) (length (j .parts) + 1)
+  pub itsEntry : e ≡ entry (j .key) mark (j .descriptor) (withUsed (result .state) (e .state .used)) (length (j .parts) + 1) (length (j .taken))
   pub itsUsed : length (j .taken) + e .state .used ≡ length (allBytes (result .items))
   pub itsRecords : j .taken ++ take (e .state .used) area ≡ allBytes (result .items)
 
@@ -151,6 +159,27 @@ abbrev pub Holds : Type 0
 Holds = (widths : List ℕ) (h : Hub) → Fresh h → (rs : List Request) (slot : ℕ) →
     let now = steps widths h rs in
     Agrees widths (account widths slot h unused rs) (entryOf now slot) (areaOf (now .records) slot) × (damaged (entryOf now slot) ≡ false)
+
+-- ---- READS: for printers, which take as they go, between any other requests. The records that a printer has taken of a job, and behind them those that it finds
+-- now, are all the records of the accepted parts, in order, none twice and none missed; and no take ended inside a record.
+
+pub record ReadInAll (widths : List ℕ) (j : Job) (found : List ℕ) : Type 0 where
+  pub result : Effect
+  pub byRules : byTheRules widths j ≡ fine result
+  pub read : List Item
+  pub unread : List Item
+  pub inAll : read ++ unread ≡ result .items
+  pub itsTaken : j .taken ≡ allBytes read
+  pub itsFound : found ≡ allBytes unread
+
+abbrev pub ReadOf : List ℕ → Account → List ℕ → Type 0
+ReadOf widths unused found = Unit
+ReadOf widths (running j) found = ReadInAll widths j found
+ReadOf widths (ended j) found = ReadInAll widths j found
+
+abbrev pub Reads : Type 0
+Reads = (widths : List ℕ) (h : Hub) → Fresh h → (rs : List Request) (slot : ℕ) →
+    ReadOf widths (account widths slot h unused rs) (printed (steps widths h rs) slot)
 
 -- ---- PRINTS: printers draw from the areas and check nothing. Where a slot has had a job, open or closed, its bytes up to `used` are whole
 -- records, one behind the other, none of them empty, and nothing else: stepping over them from the start meets the end.
@@ -165,10 +194,6 @@ pub record Printable (bytes : List ℕ) : Type 0 where
   pub records : WholeRecords count bytes
   pub met : length (boundaries bytes) ≡ count + 1
   pub end : getD (boundaries bytes) count 0 ≡ length bytes
-
--- what a printer reads of a slot
-abbrev pub printed : Hub → ℕ → List ℕ
-printed h slot = take (entryOf h slot .state .used) (areaOf (h .records) slot)
 
 abbrev pub Prints : Type 0
 Prints = (widths : List ℕ) (h : Hub) → Fresh h → (rs : List Request) (slot : ℕ) →
@@ -191,10 +216,11 @@ OnTheSheet = (widths : List ℕ) (h : Hub) → Fresh h → (rs : List Request) (
 -- key. It changes no byte and no entry, whatever table it began with. In a history its answer goes by the slot's entry at that time.
 
 -- an open: 1 while its own job is open, 13 while another is, else 14; a submit: 1 while its own job is open, else 16;
--- a close: 1 as long as its key is the last one (and above 0), else 16
+-- a take: 1 while its own job is open, else 16; a close: 1 as long as its key is the last one (and above 0), else 16
 abbrev pub resent : Request → Entry → ℕ
 resent (Open slot key d) e = if isOpenUnder e key then 1 else if isOpen e then 13 else 14
 resent (Submit slot key number part) e = if isOpenUnder e key then 1 else 16
+resent (Take slot key total) e = if isOpenUnder e key then 1 else 16
 resent (Close slot key) e = if eqb (e .key) key && ltb 0 key then 1 else 16
 
 pub record Repeat : Type 0 where

@@ -17,8 +17,8 @@ use part::shapes::Descriptor;
 use part::shapes::Point;
 use part::shapes::State;
 
-// The answer of an open and a close that were done.
-const DONE: Answer = Answer {
+// The answer of an open, a take and a close that were done.
+pub const DONE: Answer = Answer {
     code: 0,
     first: 0,
     second: 0,
@@ -120,6 +120,7 @@ pub fn open_entry(e: Entry, open_jobs: &mut u32, key: u32, d: Descriptor) -> Out
         descriptor: d,
         state: s,
         next: 1,
+        taken: 0,
     };
     Out {
         entry: n,

@@ -11,6 +11,7 @@ pub struct Entry {
     pub descriptor: Descriptor,
     pub state: State,
     pub next: u32,
+    pub taken: u32,
 }
 
 // A request's entry afterwards, and its answer.

@@ -2,7 +2,7 @@
 ghost use mathlib.Core.Path.{_≡_};
 ghost use Prim.Native.Nat.{_≤_, _<_};
 ghost use lib.ListN.{length};
-ghost use Rattle.hub.specs.Requests.{judged, maySubmit, partTaken, submitting, areaTaken, storing, areaOf};
+ghost use Rattle.hub.specs.Requests.{judged, maySubmit, partPlaced, submitting, areaFilled, storing, areaOf};
 ghost use Rattle.hub.specs.Code.{coded};
 use super::entries::is_damaged;
 use super::entries::is_open_under;
@@ -43,9 +43,9 @@ fn may_submit(e: Entry, key: u32, number: u32) -> u32
 }
 
 // The part's own answer; where its elements all pass, its state is the entry's, and next grows.
-fn taken(e: Entry, r: Interpreted) -> Out
+fn gone_on(e: Entry, r: Interpreted) -> Out
     requires { ⌜ e .next ≤ 65535 ⌝ }
-    ensures { λ o. ⌜ o ≡ partTaken e r ⌝ }
+    ensures { λ o. ⌜ o ≡ partPlaced e r ⌝ }
 {
     let a = r.answer;
     if a.code != 0 {
@@ -63,6 +63,7 @@ fn taken(e: Entry, r: Interpreted) -> Out
         descriptor: d,
         state: s,
         next,
+        taken: e.taken,
     };
     Out {
         entry: n,
@@ -80,14 +81,14 @@ pub fn submit_entry(
     part: &[u8],
 ) -> Out
     ensures { λ r. ⌜ r ≡ submitting (now (widths .entry)) key number (now (part .entry)) (now (area .entry)) e ⌝ }
-    ensures { λ _. ⌜ now (area .exit) ≡ areaTaken (now (widths .entry)) key number (now (part .entry)) (now (area .entry)) e ⌝ }
+    ensures { λ _. ⌜ now (area .exit) ≡ areaFilled (now (widths .entry)) key number (now (part .entry)) (now (area .entry)) e ⌝ }
 {
     let code = may_submit(e, key, number);
     if code != 0 {
         return refused(e, code);
     }
     let r = interpret(part, widths, area, e.descriptor, e.state);
-    taken(e, r)
+    gone_on(e, r)
 }
 
 // Lends the entry's slot its own 4,096 bytes of the record buffer.

@@ -1,15 +1,17 @@
 // The requests over a lent table of entries: each tests what is lent, then the slot, and changes one entry.
 // Each contract says that the function is its request's step: r is the step's answer, and what is lent is left as the step leaves it.
-// What a function is not lent may be anything: the step leaves it alone. Open and close are lent no widths and no record bytes, a submit no number of open jobs.
+// What a function is not lent may be anything: the step leaves it alone. Open and close are lent no widths and no record bytes, submit and take no number of open
+// jobs, a take no widths.
 ghost use mathlib.Core.Path.{_≡_};
 ghost use mathlib.Core.List.{List};
 ghost use Prim.Native.Nat.{ℕ};
-ghost use Rattle.hub.specs.Requests.{hub, Open, Submit, Close, step, countOpen};
+ghost use Rattle.hub.specs.Requests.{hub, Open, Submit, Take, Close, step, countOpen};
 use super::entries::close_entry;
 use super::entries::open_entry;
 use super::entries::tally;
 use super::jobs::Entry;
 use super::submit::submit_slot;
+use super::take::take_slot;
 use part::shapes::Answer;
 use part::shapes::Descriptor;
 
@@ -81,6 +83,34 @@ pub extern "C" fn halviruso_submit(
     }
     let at = slot as usize;
     let o = submit_slot(table[at], records, widths, slot, key, number, part);
+    table[at] = o.entry;
+    o.answer
+}
+
+// Takes records out of a job's area: so many bytes were read since it was opened. The unread ones move down to the start of the slot's own 4,096 bytes.
+#[no_mangle]
+pub extern "C" fn halviruso_take(
+    table: &mut [Entry],
+    records: &mut [u8],
+    slot: u32,
+    key: u32,
+    total: u64,
+) -> Answer
+    ensures { λ r. ⌜ ((widths : List ℕ) (stored : ℕ) →
+        let s = step widths (hub (now (table .entry)) (now (records .entry)) stored) (Take slot key total) in
+        (r ≡ s .answer) × (now (table .exit) ≡ s .after .table) × (now (records .exit) ≡ s .after .records) × (stored ≡ s .after .stored)) ⌝ }
+{
+    if table.len() != 16 {
+        return WRONG_LENGTH;
+    }
+    if records.len() != 65536 {
+        return WRONG_LENGTH;
+    }
+    if slot > 15 {
+        return NO_SLOT;
+    }
+    let at = slot as usize;
+    let o = take_slot(table[at], records, slot, key, total);
     table[at] = o.entry;
     o.answer
 }

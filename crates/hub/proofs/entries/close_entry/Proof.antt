@@ -1,6 +1,6 @@
 -- `hub::entries::close_entry` meets its contract: where all checks pass, the stored number can fall.
 -- Assumes nothing.
-use Rattle.hub.proofs.Coding.{stopped, stopped-number}
+use Rattle.hub.proofs.Coding.{stopped, stopped-same}
 use Rattle.hub.proofs.Deciding.{close-tests}
 use Rattle.hub.specs.Requests.{mayClose, closing, oneLess}
 use Rattle.part.proofs.Checks.{first-of, value-of}
@@ -25,7 +25,7 @@ returns c =
     let stored = now (c .before .before .before .before .args .open-jobs) in
     let stop = c .before .before .may-close .ensures in
     let is = c .before .if1 .taken in
-    (c .refused .ensures ∙ stopped _ _ _ _ stop is, stopped-number stored _ _ _ stop is)
+    (c .refused .ensures ∙ stopped _ _ _ _ stop is, stopped-same stored _ _ _ stop is)
 
 sub-open-jobs : tie.Need-sub-open-jobs
 sub-open-jobs c =

@@ -1,6 +1,6 @@
 -- `hub::entries::open_entry` meets its contract: where all checks pass, the descriptor is in range, and the stored number can grow.
 -- Assumes nothing.
-use Rattle.hub.proofs.Coding.{stopped, stopped-number}
+use Rattle.hub.proofs.Coding.{stopped, stopped-same}
 use Rattle.hub.proofs.Deciding.{open-tests}
 use Rattle.hub.specs.Requests.{mayOpen, opening, oneMore}
 use Rattle.part.proofs.Checks.{value-of}
@@ -24,7 +24,7 @@ returns c =
     let stored = now (c .before .before .before .before .args .open-jobs) in
     let stop = c .before .before .may-open .ensures in
     let is = c .before .if1 .taken in
-    (c .refused .ensures ∙ stopped _ _ _ _ stop is, stopped-number stored _ _ _ stop is)
+    (c .refused .ensures ∙ stopped _ _ _ _ stop is, stopped-same stored _ _ _ stop is)
 
 add-open-jobs : tie.Need-add-open-jobs
 add-open-jobs c =

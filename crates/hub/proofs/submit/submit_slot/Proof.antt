@@ -1,6 +1,6 @@
 -- `hub::submit::submit_slot` meets its contract: what comes back of the slot's own bytes is spliced into the buffer.
 -- Assumes nothing.
-use Rattle.hub.proofs.Coding.{taken-length}
+use Rattle.hub.proofs.Coding.{filled-length}
 use Rattle.hub.proofs.Slots.{put-back}
 use Rattle.hub.specs.Requests.{areaOf}
 use borrow.Author.Needs.{needs}
@@ -35,7 +35,7 @@ returns c =
     let lent = c .before .before .before .before .before .before .before .pre in
     let done = c .before .before .submit-entry .ensures in
     let records = now (a .records) in
-    (done .0, rw (done .1) (put-back records (a .slot) (lent .1 .0) (lent .0) _ (taken-length (now (a .widths)) (areaOf records (a .slot)) (a .key) (a .number) (now (a .part)) (a .e))))
+    (done .0, rw (done .1) (put-back records (a .slot) (lent .1 .0) (lent .0) _ (filled-length (now (a .widths)) (areaOf records (a .slot)) (a .key) (a .number) (now (a .part)) (a .e))))
 
 pub submit-slot-spec : {M : Type 1} → statement M
 submit-slot-spec =
