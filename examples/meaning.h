@@ -29,6 +29,7 @@ static inline const char *meaning(uint32_t code)
     case HALVIRUSO_OUTSIDE: return "outside";
     case HALVIRUSO_POSITION: return "position";
     case HALVIRUSO_NO_ROOM: return "no room";
+    case HALVIRUSO_BAD_TOTAL: return "bad total";
     case HALVIRUSO_STORED_NUMBER: return "stored number wrong";
     default: return "an answer that this host does not know";
     }

@@ -35,7 +35,7 @@ extern "C" {
 /* The answers. */
 enum {
     HALVIRUSO_DONE = 0,              /* for a submit: elements, record bytes added */
-    HALVIRUSO_ALREADY_TAKEN = 1,     /* accepted before; a retry is answered so and changes nothing */
+    HALVIRUSO_ALREADY_TAKEN = 1,     /* accepted before; a retry is answered so and changes nothing. For a take: as many bytes were taken already */
     HALVIRUSO_LENT_LENGTH = 10,      /* a lent length is wrong */
     HALVIRUSO_NO_SLOT = 11,          /* the slot is above 15 */
     HALVIRUSO_DAMAGED = 12,          /* the entry, or the state given, is out of range */
@@ -57,7 +57,8 @@ enum {
     HALVIRUSO_SUPPRESSION = 26,      /* BSU and ESU do not pair */
     HALVIRUSO_OUTSIDE = 27,          /* text or rule off the sheet */
     HALVIRUSO_POSITION = 28,         /* I or B past -32,768..32,767 */
-    HALVIRUSO_NO_ROOM = 29,          /* the record area is full */
+    HALVIRUSO_NO_ROOM = 29,          /* the record area is full: take what was printed, and send the part again */
+    HALVIRUSO_BAD_TOTAL = 30,        /* a take beyond what was written, or that ends inside a record */
     HALVIRUSO_STORED_NUMBER = 32     /* the number of open jobs beside the table cannot be the table's: set it to halviruso_count's, and send again */
 };
 
@@ -94,16 +95,17 @@ typedef struct halviruso_state {
     uint32_t space;       /* variable space, or HALVIRUSO_ABSENT */
     uint32_t suppression; /* the open one; 0: none */
     uint32_t chain;       /* 1 while a chain is open */
-    uint32_t used;        /* bytes of the record area in use */
+    uint32_t used;        /* bytes of the record area in use: written and not taken */
 } halviruso_state;
 
-/* One slot of the table: 108 bytes. */
+/* One slot of the table: 112 bytes. */
 typedef struct halviruso_entry {
-    uint32_t key;  /* the last key */
-    uint32_t mark; /* 0: closed, 1: open */
+    uint32_t key;   /* the last key */
+    uint32_t mark;  /* 0: closed, 1: open */
     halviruso_descriptor descriptor;
     halviruso_state state;
-    uint32_t next; /* the next part's number */
+    uint32_t next;  /* the next part's number */
+    uint32_t taken; /* record bytes taken since the job was opened */
 } halviruso_entry;
 
 typedef struct halviruso_table {
@@ -132,6 +134,11 @@ halviruso_answer halviruso_open(halviruso_entry *table, size_t table_length, uin
 /* Submits part `number` of the job: the first is 1, and each is sent again, with the same number, until it is answered. 0, 1, 10 to 12, 16 to 29. */
 halviruso_answer halviruso_submit(halviruso_entry *table, size_t table_length, uint8_t *records, size_t records_length, const uint16_t *widths,
                                   size_t widths_length, uint32_t slot, uint32_t key, uint32_t number, const uint8_t *part, size_t part_length);
+
+/* Takes records out of the job's area, from its start: the printer has read `total` record bytes since the job was opened, this time's and all before.
+ * The unread ones move down to the start, and later parts use the room; bytes past the new end keep what they held. 0, 1, 10, 11, 12, 16, 30. */
+halviruso_answer halviruso_take(halviruso_entry *table, size_t table_length, uint8_t *records, size_t records_length, uint32_t slot, uint32_t key,
+                                uint64_t total);
 
 /* Closes the job of this key. 0, 1, 10, 11, 12, 16; last of all 32, for an *open_jobs of 0 or above 16. A close that is done takes one off it. The job's
  * records stay until the slot's next job writes over them. */
