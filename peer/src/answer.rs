@@ -48,6 +48,8 @@ pub enum Code {
     Position = 28,
     /// The record would pass the area's end.
     Room = 29,
+    /// The total to take is beyond what was written, or ends inside a record.
+    Total = 30,
     /// The stored number of open jobs can't be right.
     Stored = 32,
 }

@@ -12,6 +12,7 @@ mod parts;
 mod requests;
 mod rng;
 mod stored;
+mod totals;
 
 pub use checks::{checked_part, increment};
 pub use ground::Ground;
@@ -19,3 +20,4 @@ pub use numbers::{descriptor, entry, state, Reach};
 pub use parts::{case, mutate, part, sized_part, Case};
 pub use requests::Requests;
 pub use rng::Rng;
+pub use totals::total;

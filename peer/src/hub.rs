@@ -3,8 +3,9 @@
 use crate::answer::{Answer, Code};
 use crate::interpret::interpret_in_range;
 use crate::model::{Descriptor, Entry, AREA, GREATEST_NEXT, MOST_OPEN, RECORDS, SLOTS};
+use crate::take::drain;
 
-/// All memory that a submit is lent.
+/// All memory that a submit is lent; a take has the widths left out.
 #[derive(Debug)]
 pub struct Lent<'a> {
     /// The job table, sixteen entries.
@@ -67,6 +68,25 @@ pub fn submit(lent: Lent<'_>, slot: u32, key: u32, number: u32, part: &[u8]) -> 
         entry.next += 1;
     }
     answer
+}
+
+/// Takes records that were read: `total` bytes of them since the job opened.
+pub fn take(lent: Lent<'_>, slot: u32, key: u32, total: u64) -> Answer {
+    if lent.records.len() != RECORDS {
+        return Answer::only(Code::Lent);
+    }
+    let entry = match entry_of(lent.table, slot) {
+        Ok(entry) => entry,
+        Err(code) => return Answer::only(code),
+    };
+    if !entry.is_open() || entry.key != key {
+        return Answer::only(Code::NoJob);
+    }
+    let (areas, _) = lent.records.as_chunks_mut::<AREA>();
+    match drain(&mut areas[slot as usize], entry, total) {
+        Ok(()) => Answer::only(Code::Done),
+        Err(code) => Answer::only(code),
+    }
 }
 
 /// Closes a job, and counts it no more; of its entry only the open mark changes.

@@ -5,7 +5,7 @@
 //! Bytes go one way: [`reader`] cuts a part into elements, `values` reads
 //! their parameters, `place` and `text` move and present, [`record`] writes
 //! bytes, [`interpret`](mod@interpret) does all or nothing, [`hub`] knows
-//! which job and which part number.
+//! which job and which part number, and `take` what leaves an area.
 
 #![forbid(unsafe_code)]
 #![warn(missing_docs)]
@@ -23,6 +23,7 @@ pub mod record;
 pub mod replay;
 pub mod script;
 pub mod sheet;
+mod take;
 mod text;
 mod values;
 

@@ -128,7 +128,7 @@ pub struct State {
     pub suppression: u32,
     /// Whether a chain is open: 0 or 1.
     pub chain: u32,
-    /// Record bytes used, 0..4,096.
+    /// Record bytes in use, 0..4,096: written and not taken.
     pub used: u32,
 }
 
@@ -182,6 +182,8 @@ pub struct Entry {
     pub state: State,
     /// Number of the next part, 1..65,536.
     pub next: u32,
+    /// Record bytes taken since the job was opened; every number is in range.
+    pub taken: u32,
 }
 
 impl Entry {
@@ -218,11 +220,12 @@ impl Entry {
             used: 0,
         },
         next: 1,
+        taken: 0,
     };
 
     /// A job just opened under `key`.
     pub const fn opened(key: u32, d: &Descriptor) -> Self {
-        Self { key, mark: 1, descriptor: *d, state: State::start(d), next: 1 }
+        Self { key, mark: 1, descriptor: *d, state: State::start(d), next: 1, taken: 0 }
     }
 
     /// Whether a job is open here.
@@ -258,6 +261,6 @@ mod tests {
         use std::mem::size_of;
         assert_eq!(size_of::<Descriptor>(), 48);
         assert_eq!(size_of::<State>(), 48);
-        assert_eq!(size_of::<Entry>(), 4 * (2 + 12 + 12 + 1));
+        assert_eq!(size_of::<Entry>(), 4 * (2 + 12 + 12 + 2));
     }
 }

@@ -107,6 +107,17 @@ pub fn records(bytes: &[u8]) -> impl Iterator<Item = Record<'_>> {
     })
 }
 
+/// The boundaries of `bytes` after its start: the places met by stepping over lengths, whatever
+/// the kinds are; a length under 16, or one that passes the end, ends the steps.
+pub fn ends(bytes: &[u8]) -> impl Iterator<Item = usize> + '_ {
+    let mut at = 0;
+    std::iter::from_fn(move || {
+        let length = usize::from(u16::from_le_bytes(*bytes[at..].first_chunk()?));
+        at += Some(length).filter(|length| (HEADER..=bytes.len() - at).contains(length))?;
+        Some(at)
+    })
+}
+
 #[cfg(test)]
 mod tests {
     use super::*;

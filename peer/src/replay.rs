@@ -35,6 +35,8 @@ pub trait Backend {
     ) -> Answer;
     /// Submits a part.
     fn submit(&mut self, lent: Lent<'_>, slot: u32, key: u32, number: u32, part: &[u8]) -> Answer;
+    /// Takes records that were read, up to a total since the job opened; the widths are nothing to it.
+    fn take(&mut self, lent: Lent<'_>, slot: u32, key: u32, total: u64) -> Answer;
     /// Closes a job; `stored` is the number of open jobs.
     fn close(&mut self, table: &mut [Entry], stored: &mut u32, slot: u32, key: u32) -> Answer;
     /// Counts open jobs.
@@ -76,6 +78,10 @@ impl Backend for Peer {
 
     fn submit(&mut self, lent: Lent<'_>, slot: u32, key: u32, number: u32, part: &[u8]) -> Answer {
         hub::submit(lent, slot, key, number, part)
+    }
+
+    fn take(&mut self, lent: Lent<'_>, slot: u32, key: u32, total: u64) -> Answer {
+        hub::take(lent, slot, key, total)
     }
 
     fn close(&mut self, table: &mut [Entry], stored: &mut u32, slot: u32, key: u32) -> Answer {
@@ -229,15 +235,19 @@ impl<B: Backend> Replay<B> {
     fn ask(&mut self, step: &Step) -> Said {
         let table = &mut self.memory.table[..self.lend.table];
         let stored = &mut self.memory.stored;
+        let records = &mut self.memory.records[..self.lend.records];
+        let widths = &self.memory.widths[..self.lend.widths];
         match *step {
             Step::Open { slot, key, ref descriptor } => {
                 Said::Answer(self.backend.open(table, stored, slot, key, descriptor))
             }
             Step::Submit { slot, key, number, ref part } => {
-                let records = &mut self.memory.records[..self.lend.records];
-                let widths = &self.memory.widths[..self.lend.widths];
                 let lent = Lent { table, records, widths };
                 Said::Answer(self.backend.submit(lent, slot, key, number, part))
+            }
+            Step::Take { slot, key, total } => {
+                let lent = Lent { table, records, widths };
+                Said::Answer(self.backend.take(lent, slot, key, total))
             }
             Step::Close { slot, key } => Said::Answer(self.backend.close(table, stored, slot, key)),
             Step::Count => Said::Count(self.backend.count(table)),

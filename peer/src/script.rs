@@ -68,6 +68,15 @@ pub enum Step {
         /// The part.
         part: Vec<u8>,
     },
+    /// Takes records that were read.
+    Take {
+        /// Slot.
+        slot: u32,
+        /// Key.
+        key: u32,
+        /// Record bytes read since the job opened.
+        total: u64,
+    },
     /// Closes a job.
     Close {
         /// Slot.
@@ -147,6 +156,7 @@ impl fmt::Display for Step {
             Self::Submit { slot, key, number, part } => {
                 write!(f, "submit {slot} {key} {number} {}", Hex(part))
             }
+            Self::Take { slot, key, total } => write!(f, "take {slot} {key} {total}"),
             Self::Close { slot, key } => write!(f, "close {slot} {key}"),
             Self::Count => f.write_str("count"),
             Self::Store(number) => write!(f, "stored {number}"),
@@ -190,7 +200,8 @@ impl fmt::Display for Entry {
         write!(f, "{} {} {} ", self.key, self.mark, self.descriptor)?;
         write!(f, "{} {} {} {} ", signed(s.i), signed(s.b), s.margin, s.increment)?;
         write!(f, "{} {} {} {} ", s.adjustment, s.direction, s.font, s.colour)?;
-        write!(f, "{} {} {} {} {}", s.space, s.suppression, s.chain, self.next, s.used)
+        write!(f, "{} {} {} {} ", s.space, s.suppression, s.chain, self.next)?;
+        write!(f, "{} {}", s.used, self.taken)
     }
 }
 
@@ -215,6 +226,14 @@ mod tests {
         }
         for good in ["stored", "stored 0", "stored 17", "stored 4294967295", "stored 0016"] {
             assert!(!is_bad(good), "{good}");
+        }
+        for good in
+            ["take 4294967295 4294967295 18446744073709551615", "take 0 0 0", "take 1 01 007"]
+        {
+            assert!(!is_bad(good), "{good}");
+        }
+        for bad in ["take 0 1 18446744073709551616", "take 0 1 -1", "take 0 4294967296 1"] {
+            assert!(is_bad(bad), "{bad}");
         }
         for bad in ["widths 65536", "fill 256", "width 4 0 0", "width 0 256 0", "lend 21 0 0"] {
             assert!(is_bad(bad), "{bad}");
@@ -251,6 +270,11 @@ mod tests {
         {
             assert!(is_bad(bad), "{bad:?}");
         }
+        for bad in ["take 0 1", "take 0 1 2 3", "Take 0 1 2", "take 0 1  2", "take 0 1 -", "take"] {
+            assert!(is_bad(bad), "{bad:?}");
+        }
+        let take = Step::Take { slot: 16, key: 1, total: u64::MAX };
+        assert_eq!(Step::parse("take 16 1 18446744073709551615"), Ok(take));
         assert_eq!(Step::parse("stored"), Ok(Step::Stored));
         assert_eq!(Step::parse("stored 007"), Ok(Step::Store(7)));
         let part = vec![0x2B, 0xD3, 0x02, 0xD8];
@@ -258,6 +282,21 @@ mod tests {
         assert_eq!(Step::parse("direct 1 2bD302d8"), Ok(direct));
         assert_eq!(Step::parse("check 2bD302d8"), Ok(Step::Check { part: part.clone() }));
         assert_eq!(Step::parse("check-at 7 2bD302d8"), Ok(Step::CheckAt { increment: 7, part }));
+    }
+
+    #[test]
+    fn set_takes_a_number_taken_or_none() {
+        let line = "set 0 1 1 1 2 3 4 5 6 7 8 9 10 11 12 0 0 1 2 3 4 5 6 7 8 0 9 4096";
+        let taken = |line: &str| match Step::parse(line) {
+            Ok(Step::Set { entry, .. }) => Some((entry.state.used, entry.taken)),
+            _ => None,
+        };
+        assert_eq!(taken(line), Some((4_096, 0)));
+        assert_eq!(Step::parse(line), Step::parse(&format!("{line} 0")));
+        assert_eq!(taken(&format!("{line} 04294967295")), Some((4_096, u32::MAX)));
+        for more in ["4294967296", "-1", "+1", "-", "x", "1 2", "", " 1"] {
+            assert!(is_bad(&format!("{line} {more}")), "{more}");
+        }
     }
 
     #[test]

@@ -28,6 +28,19 @@ fn quoted(cell: &str) -> Vec<&str> {
     cell.split('`').skip(1).step_by(2).collect()
 }
 
+/// A form without its word in brackets and with it; the same twice, if it has none.
+fn both(form: &str) -> [String; 2] {
+    let short = form.split(" [").next().unwrap_or_default();
+    [short.to_string(), form.replace(['[', ']'], "")]
+}
+
+/// Every form that a line can have.
+fn whole_forms() -> Vec<String> {
+    let mut forms: Vec<String> = forms().flat_map(both).collect();
+    forms.dedup();
+    forms
+}
+
 /// A line of this form in which the word `name` is `value`; for D, each of its twelve.
 fn line(form: &str, name: &str, value: &str) -> String {
     let word = |of: &str| match of {
@@ -68,29 +81,30 @@ fn the_table_has_the_lines_that_are_read() {
 #[test]
 fn each_line_of_the_table_prints_something_or_nothing_as_told() {
     let rows = table(LINES);
-    let lines: Vec<String> = rows.iter().map(|row| line(quoted(&row[0])[0], "", "")).collect();
-    for (row, line) in rows.iter().zip(&lines) {
+    let forms = rows.iter().flat_map(|row| both(quoted(&row[0])[0]).map(|form| (row, form)));
+    let lines: Vec<_> = forms.map(|(row, form)| (row, line(&form, "", ""))).collect();
+    for (row, line) in &lines {
         let out = printed(&format!("{line}\n"));
         assert_eq!(out.is_empty(), row[2] == "nothing", "{line} prints {out:?}");
         // A word more or less makes another line of the table, or a bad one.
         let (more, fewer) =
             (format!("{line} 1"), line.rsplit_once(' ').map_or("", |(most, _)| most));
         for other in [&more, fewer] {
-            let is_told = lines.iter().any(|told| shape(told) == shape(other));
+            let is_told = lines.iter().any(|(_, told)| shape(told) == shape(other));
             assert_eq!(Step::parse(other).is_ok(), is_told, "{other}");
         }
     }
 }
 
 /// The words that a row of the ranges is about, each with a form that has it.
-fn named(row: &[String]) -> Vec<(&'static str, &str)> {
+fn named(row: &[String]) -> Vec<(String, &str)> {
     let mut found = Vec::new();
     for first in quoted(&row[1]) {
         let before = found.len();
-        for form in forms().filter(|form| shape(form).0 == Some(first)) {
+        for form in whole_forms().iter().filter(|form| shape(form).0 == Some(first)) {
             let names = quoted(&row[0]).into_iter();
             let names = names.filter(|name| form.split(' ').any(|of| of == *name));
-            found.extend(names.map(|name| (form, name)));
+            found.extend(names.map(|name| (form.clone(), name)));
         }
         assert!(found.len() > before, "{first} has no word of {}", row[0]);
     }
@@ -101,21 +115,22 @@ fn named(row: &[String]) -> Vec<(&'static str, &str)> {
 fn the_least_and_the_greatest_numbers_are_taken_and_no_others() {
     let mut tried = 0;
     for row in table(RANGES) {
-        let [least, greatest] = [&row[2], &row[3]].map(|end| end.parse::<i64>().expect("a number"));
+        let [least, greatest] =
+            [&row[2], &row[3]].map(|end| end.parse::<i128>().expect("a number"));
         for (form, name) in named(&row) {
             for (value, is_taken) in
                 [(least, true), (greatest, true), (least - 1, false), (greatest + 1, false)]
             {
-                let line = line(form, name, &value.to_string());
+                let line = line(&form, name, &value.to_string());
                 assert_eq!(Step::parse(&line).is_ok(), is_taken, "{line}");
             }
             tried += 1;
         }
     }
     // Every word of every form but the first ones and HEX.
-    let words =
-        forms().flat_map(|form| form.split(' ').skip(1)).filter(|name| *name != "HEX").count();
-    assert_eq!(tried, words);
+    let forms = whole_forms();
+    let words = forms.iter().flat_map(|form| form.split(' ').skip(1));
+    assert_eq!(tried, words.filter(|name| *name != "HEX").count());
 }
 
 #[test]

@@ -7,18 +7,18 @@ use peer::model::{AREA, RECORDS, SLOTS, WIDTHS};
 use peer::reader::{
     read, Element, AMB, AMI, BSU, CHAIN, DBR, DIR, ESU, RPS, SBI, SCFL, SIA, SIM, STC, STO, SVI,
 };
-use peer::replay::{Peer, Replay, Said, Stopped};
+use peer::replay::{Memory, Peer, Replay, Said, Stopped};
 use peer::script::Step;
 use peer::{interpret, sheet, Answer, State};
 
-const CODES: [u32; 23] =
-    [0, 1, 10, 11, 12, 13, 14, 15, 16, 17, 18, 19, 20, 21, 22, 23, 24, 25, 26, 27, 28, 29, 32];
+const CODES: [u32; 24] =
+    [0, 1, 10, 11, 12, 13, 14, 15, 16, 17, 18, 19, 20, 21, 22, 23, 24, 25, 26, 27, 28, 29, 30, 32];
 
 #[test]
 fn requests_meet_every_answer_often() {
     let mut met = [0; 33];
     let (mut accepted_long, mut accepted_full, mut most_elements) = (0, 0, 0);
-    for seed in 0..20 {
+    for seed in 0..28 {
         for (step, said) in Requests::new(seed, Reach::Script).take(1_000) {
             let Said::Answer(answer) = said else { continue };
             met[answer.code as usize] += 1;
@@ -189,12 +189,22 @@ fn changed(step: &Step, said: &Said) -> Option<Option<usize>> {
     match (step, said) {
         (_, Said::Answer(answer)) if answer.code != 0 => Some(None),
         (Step::Open { slot, .. } | Step::Close { slot, .. }, _) => Some(Some(*slot as usize)),
-        (Step::Submit { slot, .. }, _) => Some(Some(*slot as usize)),
+        (Step::Submit { slot, .. } | Step::Take { slot, .. }, _) => Some(Some(*slot as usize)),
         (Step::Direct { slot, .. }, _) => Some(Some(*slot)),
         (Step::Count | Step::Stored | Step::Show { .. } | Step::Bytes { .. }, _) => Some(None),
         (Step::Check { .. } | Step::CheckAt { .. }, _) => Some(None),
         _ => None,
     }
+}
+
+/// The records left after a take move down, and of its entry two numbers change.
+fn drained(expected: &mut Memory, slot: usize, total: u64) {
+    let entry = &mut expected.table[slot];
+    let read = total as usize - entry.taken as usize;
+    let left = expected.records[AREA * slot..][read..entry.state.used as usize].to_vec();
+    entry.state.used = left.len() as u32;
+    entry.taken = total as u32;
+    expected.records[AREA * slot..][..left.len()].copy_from_slice(&left);
 }
 
 /// What a request may change: one entry, the record bytes it says it added, the number by one.
@@ -216,7 +226,10 @@ fn requests_change_only_what_they_name() {
                 let from =
                     AREA * slot + expected.table[slot].state.used as usize * usize::from(added > 0);
                 expected.records[from..][..added].copy_from_slice(&after.records[from..][..added]);
-                expected.table[slot] = after.table[slot];
+                match step {
+                    Step::Take { total, .. } => drained(&mut expected, slot, total),
+                    _ => expected.table[slot] = after.table[slot],
+                }
                 match step {
                     Step::Open { .. } => expected.stored += 1,
                     Step::Close { .. } => expected.stored -= 1,

@@ -87,7 +87,7 @@ fn every_place_of_the_number_is_met_by_both_requests_often() {
 fn requests_are_accepted_often_beside_right_numbers_and_wrong_ones() {
     let mut accepted: BTreeMap<(&str, bool), u32> = BTreeMap::new();
     let (mut steps, mut right_steps, mut wronged, mut mended) = (0, 0, 0, 0);
-    met(50..100, |step, said, stored, walked| {
+    met(40..100, |step, said, stored, walked| {
         let right = stored == walked;
         steps += 1;
         right_steps += u32::from(right);
@@ -98,6 +98,7 @@ fn requests_are_accepted_often_beside_right_numbers_and_wrong_ones() {
         let kind = match step {
             Step::Open { .. } => "open",
             Step::Submit { .. } => "submit",
+            Step::Take { .. } => "take",
             Step::Close { .. } => "close",
             _ => return,
         };
@@ -107,7 +108,7 @@ fn requests_are_accepted_often_beside_right_numbers_and_wrong_ones() {
     println!(
         "{accepted:?}, {right_steps} of {steps} right, {wronged} times wrong, {mended} mended"
     );
-    for (kind, times) in [("open", 400), ("submit", 1_000), ("close", 100)] {
+    for (kind, times) in [("open", 400), ("submit", 1_000), ("take", 300), ("close", 100)] {
         assert!(
             accepted[&(kind, true)] >= times && accepted[&(kind, false)] >= times / 4,
             "{kind}"

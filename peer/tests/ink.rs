@@ -220,7 +220,7 @@ fn direct_calls_meet_every_rule_with_no_ink_often() {
 #[test]
 fn submits_meet_every_rule_with_no_ink_often() {
     let mut met = Met::new();
-    for seed in 0..20 {
+    for seed in 0..40 {
         let mut requests = Requests::new(seed, Reach::Script);
         for _ in 0..1_000 {
             let Memory { table, widths, .. } = requests.replay().memory().clone();

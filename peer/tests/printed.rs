@@ -91,7 +91,7 @@ show 3
     let printed = "0 0 0
 0 3 18
 1 0 0
-JOB 17 1 12240 15840 0 0 0 240 0 0 0 65287 14 0 1008 480 0 240 0 0 0 65287 65535 0 0 2 18
+JOB 17 1 12240 15840 0 0 0 240 0 0 0 65287 14 0 1008 480 0 240 0 0 0 65287 65535 0 0 2 18 0
 T 720 480 0 65287 0 65535 C1C2
 END
 ";
@@ -120,7 +120,7 @@ fn lent_lengths_and_memory() {
     );
     let printed = "0 0 0\nCOUNT 0\n10 0 0\n10 0 0\n10 0 0\n10 0 0\n0 1 17\nCOUNT 1\nFFC1AB\n-\n\
                    COUNT 0\nFFC1AB\n\
-                   JOB 0 0 0 0 0 0 0 0 0 0 0 0 0 0 0 0 0 0 0 0 0 0 65535 0 0 1 0\nEND\n";
+                   JOB 0 0 0 0 0 0 0 0 0 0 0 0 0 0 0 0 0 0 0 0 0 0 65535 0 0 1 0 0\nEND\n";
     assert_eq!(replayed(script.as_bytes()), printed);
 }
 
@@ -147,9 +147,9 @@ fn widths_change_by_font_and_code_point() {
     );
     let printed = format!(
         "0 0 0\n0 1 17\n0 2 17\n\
-         JOB 1 1 {SHEET} 17 0 0 240 0 0 1 65287 65535 0 0 1 34\n\
+         JOB 1 1 {SHEET} 17 0 0 240 0 0 1 65287 65535 0 0 1 34 0\n\
          T 0 0 0 65287 0 65535 C1\nT 10 0 1 65287 0 65535 C1\nEND\n\
-         JOB 9 0 {SHEET} -32768 32767 1 2 3 4 5 6 7 8 1 4294967295 65535\nEND\n"
+         JOB 9 0 {SHEET} -32768 32767 1 2 3 4 5 6 7 8 1 4294967295 65535 0\nEND\n"
     );
     assert_eq!(replayed(script.as_bytes()), printed);
 }

@@ -7,7 +7,7 @@ const D_NAMES: &str =
     "SIZE-I SIZE-B INITIAL-I INITIAL-B MARGIN INCREMENT ADJUSTMENT DIRECTION FONT COLOUR \
                        RULE HIDDEN";
 const FIRST: &str =
-    "widths, width, fill, fresh, lend, open, submit, close, count, stored, direct, check, \
+    "widths, width, fill, fresh, lend, open, submit, take, close, count, stored, direct, check, \
      check-at, set, show, bytes";
 
 /// What stopped a script that has this as its second line.
@@ -62,7 +62,10 @@ fn spaces_and_line_ends() {
 #[test]
 fn too_few_and_too_many_words() {
     let entry =
-        "I B MARGIN INCREMENT ADJUSTMENT DIRECTION FONT COLOUR SPACE SUPPRESSION CHAIN NEXT USED";
+        "I B MARGIN INCREMENT ADJUSTMENT DIRECTION FONT COLOUR SPACE SUPPRESSION CHAIN NEXT USED \
+         [TAKEN]";
+    let set = format!("set S KEY OPEN {D_NAMES} {entry}");
+    let long = format!("set 0 1 0 {D} 0 0 1 2 3 4 5 6 7 8 0 9 0 1 2");
     check(&[
         ("count 1", "too many words, 2 and not 1: count"),
         ("close 0", "too few words, 2 and not 3: close S K"),
@@ -77,7 +80,10 @@ fn too_few_and_too_many_words() {
         ("stored 1 2", "too many words, 3 and not 1 or 2: stored, or stored N"),
         ("stored N 1 2", "too many words, 4 and not 1 or 2: stored, or stored N"),
         ("open 0 1", &format!("too few words, 3 and not 15: open S K {D_NAMES}")),
-        ("set 0", &format!("too few words, 2 and not 29: set S KEY OPEN {D_NAMES} {entry}")),
+        ("take 0 1", "too few words, 3 and not 4: take S K TOTAL"),
+        ("take 0 1 17 0", "too many words, 5 and not 4: take S K TOTAL"),
+        ("set 0", &format!("too few words, 2 and not 29 or 30: {set}")),
+        (&long, &format!("too many words, 31 and not 29 or 30: {set}")),
     ]);
 }
 
@@ -101,6 +107,13 @@ fn numbers() {
         ("check-at C1 180", "word 2, N, is no number: \"C1\""),
         ("check-at -1 C1", "word 2, N, has a sign: -1; only I and B may have one, a minus"),
         ("check-at 4294967296 -", "word 2, N, is 4294967296; it may be 0 to 4294967295"),
+        ("take 0 1 x", "word 4, TOTAL, is no number: \"x\""),
+        ("take 0 1 -1", "word 4, TOTAL, has a sign: -1; only I and B may have one, a minus"),
+        (
+            "take 0 1 18446744073709551616",
+            "word 4, TOTAL, is 18446744073709551616; it may be 0 to 18446744073709551615",
+        ),
+        ("take 4294967296 1 0", "word 2, S, is 4294967296; it may be 0 to 4294967295"),
         ("stored x", "word 2, N, is no number: \"x\""),
         ("stored -1", "word 2, N, has a sign: -1; only I and B may have one, a minus"),
         ("stored 4294967296", "word 2, N, is 4294967296; it may be 0 to 4294967295"),
@@ -145,6 +158,16 @@ fn entries() {
         ),
         (&set("0", "0", "2", "0"), "word 27, CHAIN, is 2; it may be 0 or 1"),
         (&set("0", "0", "0", "65536"), "word 29, USED, is 65536; it may be 0 to 65535"),
+        (&set("0", "0", "0", "65536 0"), "word 29, USED, is 65536; it may be 0 to 65535"),
+        (
+            &set("0", "0", "0", "0 4294967296"),
+            "word 30, TAKEN, is 4294967296; it may be 0 to 4294967295",
+        ),
+        (&set("0", "0", "0", "0 x"), "word 30, TAKEN, is no number: \"x\""),
+        (
+            &set("0", "0", "0", "0 -1"),
+            "word 30, TAKEN, has a sign: -1; only I and B may have one, a minus",
+        ),
     ]);
 }
 

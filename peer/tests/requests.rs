@@ -60,7 +60,7 @@ fn open_makes_the_entry_new_and_leaves_the_bytes() {
         chain: 0,
         used: 0,
     };
-    assert_eq!(desk.table[0], Entry { key: 2, mark: 1, descriptor, state, next: 1 });
+    assert_eq!(desk.table[0], Entry { key: 2, mark: 1, descriptor, state, next: 1, taken: 0 });
     assert_eq!(desk.records[16..18], [0xC1, 0xC2]);
 }
 
@@ -147,6 +147,7 @@ fn a_damaged_entry_refuses_everything_and_is_counted() {
         for key in [0, 1, 2] {
             assert_eq!(desk.open(0, key, &DESCRIPTOR), only(12));
             assert_eq!(desk.submit(0, key, 1, &[]), only(12));
+            assert_eq!(desk.take(0, key, 0), only(12));
             assert_eq!(desk.close(0, key), only(12));
         }
         assert_eq!(desk.table, before);

@@ -1,6 +1,7 @@
 //! Descriptors, states and entries, in range or just out of it.
 
 use super::rng::Rng;
+use super::totals;
 use crate::model::{kept, Descriptor, Entry, State, ABSENT, COLOURS};
 use crate::sheet;
 
@@ -136,7 +137,7 @@ pub fn entry(rng: &mut Rng, key: u32) -> Entry {
         1 => rng.between(1, 65_536),
         _ => 1,
     };
-    Entry { key, mark: 1, descriptor, state, next }
+    Entry { key, mark: 1, descriptor, state, next, taken: totals::taken(rng) }
 }
 
 /// One number of the descriptor goes out of range.

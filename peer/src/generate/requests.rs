@@ -1,5 +1,7 @@
 //! Sequences of requests, steered by running them on this crate's hub.
 
+mod takes;
+
 use super::checks;
 use super::ground::Ground;
 use super::numbers::{self, Reach};
@@ -27,6 +29,8 @@ pub struct Requests {
     recent: Vec<Step>,
     /// Steps decided on already, the next one last.
     waiting: Vec<Step>,
+    /// Slots of which something is taken after that.
+    drains: Vec<usize>,
 }
 
 impl Requests {
@@ -34,8 +38,8 @@ impl Requests {
     pub fn new(seed: u64, reach: Reach) -> Self {
         let mut rng = Rng::new(seed);
         let keeps = rng.chance(1, 3);
-        let (recent, waiting) = (Vec::new(), Vec::new());
-        Self { rng, reach, keeps, replay: Replay::new(Peer), recent, waiting }
+        let (recent, waiting, drains) = (Vec::new(), Vec::new(), Vec::new());
+        Self { rng, reach, keeps, replay: Replay::new(Peer), recent, waiting, drains }
     }
 
     /// This crate's hub as the steps so far have left it.
@@ -45,9 +49,10 @@ impl Requests {
 
     /// A request that suits the memory as it stands, for whoever asks to do with it as they like.
     pub fn request(&mut self) -> Step {
-        match self.rng.below(20) {
+        match self.rng.below(24) {
             0..=11 => self.submit(),
             12..=16 => self.open(),
+            17..=20 => self.take(),
             _ => self.close(),
         }
     }
@@ -55,12 +60,17 @@ impl Requests {
     /// A close or an open that is done beside the right number, if a few looks find one.
     pub fn due(&mut self, closes: bool) -> Step {
         let at = self.slot(|entry| entry.is_open() == closes && !entry.is_damaged());
-        let (slot, key) = (at as u32, self.entry(at).key);
         if closes {
-            return Step::Close { slot, key };
+            return Step::Close { slot: at as u32, key: self.entry(at).key };
         }
+        self.reopen(at)
+    }
+
+    /// An open of a closed slot.
+    fn reopen(&mut self, slot: usize) -> Step {
+        let key = self.entry(slot).key.saturating_add(1);
         let descriptor = numbers::descriptor(&mut self.rng);
-        Step::Open { slot, key: key.saturating_add(1), descriptor }
+        Step::Open { slot: slot as u32, key, descriptor }
     }
 
     /// A stored number, mostly a wrong one.
@@ -72,13 +82,18 @@ impl Requests {
     /// Does a step, as if the sequence had chosen it.
     pub fn make(&mut self, step: &Step) -> Said {
         self.remember(step);
-        self.replay.step(step)
+        let said = self.replay.step(step);
+        self.make_room(step, &said);
+        said
     }
 
     /// Wrong lengths are lent, and wrong numbers stored, for a few steps only.
     fn choose(&mut self) -> Step {
         if let Some(step) = self.waiting.pop() {
             return step;
+        }
+        if let Some(slot) = self.drains.pop() {
+            return self.take_of(slot);
         }
         if self.replay.lend() != RIGHT && self.rng.chance(1, 5) {
             return Step::Lend(RIGHT);
@@ -87,7 +102,7 @@ impl Requests {
         if self.replay.memory().stored != walked && self.rng.chance(1, 10) {
             return Step::Store(walked);
         }
-        match self.rng.below(106) {
+        match self.rng.below(118) {
             0..=42 => self.submit(),
             43 | 44 => self.swapped(),
             45..=59 => self.open(),
@@ -106,6 +121,8 @@ impl Requests {
             98 => self.repair(),
             99..=103 if !self.keeps => self.stored(),
             99..=104 => Step::Stored,
+            105..=115 => self.take(),
+            116 => self.litter(),
             _ if self.rng.chance(1, 4) => Step::Fresh,
             _ => Step::Fill(self.rng.byte()),
         }
@@ -310,7 +327,11 @@ impl Requests {
     }
 
     fn remember(&mut self, step: &Step) {
-        if !matches!(step, Step::Open { .. } | Step::Submit { .. } | Step::Close { .. }) {
+        let is_request = matches!(
+            step,
+            Step::Open { .. } | Step::Submit { .. } | Step::Take { .. } | Step::Close { .. }
+        );
+        if !is_request {
             return;
         }
         if self.recent.len() == RECENT {

@@ -1,5 +1,7 @@
 //! The lines that a script can have: how each goes, and the step that it says.
 
+use std::ops::RangeInclusive;
+
 use super::bad::{shown, Bad};
 use super::words::{spelled, Words};
 use super::Step;
@@ -7,9 +9,10 @@ use crate::model::{AREA, FONTS};
 
 type Read = fn(&mut Words<'_>) -> Result<Step, Bad>;
 
-/// The form of each line, and what reads the words after the first. D stands for twelve numbers.
-/// Forms that begin with the same word stand together, and no two have as many words.
-const LINES: [(&str, Read); 17] = [
+/// The form of each line, and what reads the words after the first. D stands for twelve numbers; a
+/// last word in brackets can be left out. Forms that begin with the same word stand together, and
+/// no two have as many words.
+const LINES: [(&str, Read); 18] = [
     ("widths N", |words| Ok(Step::Widths(words.width()?))),
     ("width F C N", width),
     ("fill N", |words| Ok(Step::Fill(words.byte()?))),
@@ -17,6 +20,7 @@ const LINES: [(&str, Read); 17] = [
     ("lend T R W", |words| Ok(Step::Lend(words.lend()?))),
     ("open S K D", open),
     ("submit S K N HEX", submit),
+    ("take S K TOTAL", take),
     ("close S K", |words| Ok(Step::Close { slot: words.long()?, key: words.long()? })),
     ("count", |_| Ok(Step::Count)),
     ("stored N", |words| Ok(Step::Store(words.long()?))),
@@ -28,7 +32,7 @@ const LINES: [(&str, Read); 17] = [
     }),
     (
         "set S KEY OPEN D I B MARGIN INCREMENT ADJUSTMENT DIRECTION FONT COLOUR SPACE SUPPRESSION \
-         CHAIN NEXT USED",
+         CHAIN NEXT USED [TAKEN]",
         |words| Ok(Step::Set { slot: words.slot()?, entry: words.entry()? }),
     ),
     ("show S", |words| Ok(Step::Show { slot: words.slot()? })),
@@ -52,7 +56,7 @@ pub(super) fn parse(line: &str) -> Result<Step, Bad> {
         .filter(|(form, _)| first(form) == first(line))
         .map(|(form, read)| (spelled(form), *read))
         .collect();
-    match alike.iter().find(|(form, _)| length(form) == found) {
+    match alike.iter().find(|(form, _)| lengths(form).contains(&found)) {
         Some((form, read)) => read(&mut Words::of(line, form)),
         None if alike.is_empty() => Err(unknown(first(line))),
         None => Err(unlike(found, alike.into_iter().map(|(form, _)| form).collect())),
@@ -63,11 +67,18 @@ fn length(line: &str) -> usize {
     line.split(' ').count()
 }
 
+/// How many words a line of this form may have.
+fn lengths(form: &str) -> RangeInclusive<usize> {
+    let least = form.split(' ').filter(|name| !name.starts_with('[')).count();
+    least..=length(form)
+}
+
 /// As many words as none of the forms that begin with the line's first word.
 fn unlike(found: usize, mut forms: Vec<String>) -> Bad {
     forms.sort_by_key(|form| length(form));
-    let fault = if forms.iter().all(|form| found < length(form)) { "few" } else { "many" };
-    let belong: Vec<String> = forms.iter().map(|form| length(form).to_string()).collect();
+    let belong: Vec<usize> = forms.iter().flat_map(|form| lengths(form)).collect();
+    let fault = if belong.iter().all(|length| found < *length) { "few" } else { "many" };
+    let belong: Vec<String> = belong.iter().map(usize::to_string).collect();
     let (belong, forms) = (belong.join(" or "), forms.join(", or "));
     Bad(format!("too {fault} words, {found} and not {belong}: {forms}"))
 }
@@ -125,6 +136,10 @@ fn submit(words: &mut Words<'_>) -> Result<Step, Bad> {
         number: words.long()?,
         part: words.bytes()?,
     })
+}
+
+fn take(words: &mut Words<'_>) -> Result<Step, Bad> {
+    Ok(Step::Take { slot: words.long()?, key: words.long()?, total: words.up_to(u64::MAX)? })
 }
 
 fn bytes(words: &mut Words<'_>) -> Result<Step, Bad> {

@@ -1,5 +1,8 @@
 //! The words of a line, read one after the other.
 
+use std::iter::Peekable;
+use std::str::Split;
+
 use super::bad::{shown, Bad};
 use super::Lend;
 use crate::model::{kept, Descriptor, Entry, State, GREATEST_POSITION, LEAST_POSITION, SLOTS};
@@ -19,13 +22,13 @@ pub(super) struct Words<'a> {
     form: &'a str,
     /// Words read so far.
     read: usize,
-    left: std::str::Split<'a, char>,
+    left: Peekable<Split<'a, char>>,
 }
 
 impl<'a> Words<'a> {
-    /// The words after the first; a line has as many as its form, which is spelled.
+    /// The words after the first; a line has as many as its form, which is spelled, can have.
     pub(super) fn of(line: &'a str, form: &'a str) -> Self {
-        let mut words = Self { form, read: 0, left: line.split(' ') };
+        let mut words = Self { form, read: 0, left: line.split(' ').peekable() };
         words.next();
         words
     }
@@ -38,7 +41,7 @@ impl<'a> Words<'a> {
     /// What is wrong with the word read last.
     fn bad(&self, what: &str) -> Bad {
         let name = self.form.split(' ').nth(self.read - 1).unwrap_or_default();
-        Bad(format!("word {}, {name}, {what}", self.read))
+        Bad(format!("word {}, {}, {what}", self.read, name.trim_matches(['[', ']'])))
     }
 
     fn no_number(&self, word: &str) -> Bad {
@@ -144,7 +147,7 @@ impl<'a> Words<'a> {
         })
     }
 
-    /// `next` stands before `used`, the state's last number.
+    /// `next` stands before `used`, the state's last number. What is taken can be left out.
     pub(super) fn entry(&mut self) -> Result<Entry, Bad> {
         let (key, mark, descriptor) = (self.long()?, self.mark()?, self.descriptor()?);
         let state = State {
@@ -162,7 +165,8 @@ impl<'a> Words<'a> {
             used: 0,
         };
         let (next, used) = (self.long()?, self.short()?);
-        Ok(Entry { key, mark, descriptor, state: State { used, ..state }, next })
+        let taken = if self.left.peek().is_some() { self.long()? } else { 0 };
+        Ok(Entry { key, mark, descriptor, state: State { used, ..state }, next, taken })
     }
 
     /// Pairs of hex digits, or a minus for none.

@@ -59,6 +59,11 @@ impl Desk {
         hub::submit(Lent { table, records, widths: &self.widths }, slot, key, number, part)
     }
 
+    pub fn take(&mut self, slot: u32, key: u32, total: u64) -> Answer {
+        let (table, records) = (&mut self.table[..], &mut self.records[..]);
+        hub::take(Lent { table, records, widths: &self.widths }, slot, key, total)
+    }
+
     pub fn close(&mut self, slot: u32, key: u32) -> Answer {
         hub::close(&mut self.table, &mut self.stored, slot, key)
     }
