@@ -24,7 +24,7 @@ impl Codes {
 
     /// The codes of the papers that were no answer.
     pub fn missing(&self) -> Vec<u32> {
-        let codes = [0, 1].into_iter().chain(10..=29).chain([32]);
+        let codes = [0, 1].into_iter().chain(10..=30).chain([32]);
         codes.filter(|code| !self.0.contains_key(code)).collect()
     }
 }

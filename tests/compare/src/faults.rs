@@ -2,6 +2,7 @@
 
 mod number;
 mod parts;
+mod take;
 
 use peer::hub::Lent;
 use peer::model::{AREA, GREATEST_DISTANCE, LONGEST_PART, SLOTS};
@@ -50,10 +51,35 @@ pub enum Fault {
     Reclosed,
     Recounted,
     StoredFirst,
+    TakeZeroes,
+    TakeMovesAll,
+    TakeForgets,
+    TakeNext,
+    TakeInside,
+    TakeUsedUp,
+    TakeKinds,
+    TakeOne,
+    TakeUsed,
+    TakeCut,
+    TakeGreatest,
+    TakeWraps,
+    TakeClosed,
+    TakeWidths,
+    TakeSlotFirst,
+    OpenTaken,
+    CloseTaken,
+    SubmitRoom,
+    TakeShort,
+    TakeStays,
+    SubmitTaken,
+    TakeOrder,
+    TakeEarly,
+    TakeAgain,
+    TakeBack,
 }
 
 /// Every fault, its name for `--break`, and the test that is to find it.
-pub const FAULTS: [(Fault, &str, &str); 36] = [
+pub const FAULTS: [(Fault, &str, &str); 61] = [
     (Fault::FreshKey, "fresh-key", "requests"),
     (Fault::OpenKey, "open-key", "requests"),
     (Fault::CloseForgets, "close-forgets", "requests"),
@@ -90,6 +116,31 @@ pub const FAULTS: [(Fault, &str, &str); 36] = [
     (Fault::Reclosed, "reclosed", "repeat"),
     (Fault::Recounted, "recounted", "repeat"),
     (Fault::StoredFirst, "stored-first", "repeat"),
+    (Fault::TakeZeroes, "take-zeroes", "requests"),
+    (Fault::TakeMovesAll, "take-moves-all", "requests"),
+    (Fault::TakeForgets, "take-forgets", "requests"),
+    (Fault::TakeNext, "take-next", "requests"),
+    (Fault::TakeInside, "take-inside", "requests"),
+    (Fault::TakeUsedUp, "take-used-up", "requests"),
+    (Fault::TakeKinds, "take-kinds", "requests"),
+    (Fault::TakeOne, "take-one", "requests"),
+    (Fault::TakeUsed, "take-used", "requests"),
+    (Fault::TakeCut, "take-cut", "requests"),
+    (Fault::TakeGreatest, "take-greatest", "requests"),
+    (Fault::TakeWraps, "take-wraps", "requests"),
+    (Fault::TakeClosed, "take-closed", "requests"),
+    (Fault::TakeWidths, "take-widths", "requests"),
+    (Fault::TakeSlotFirst, "take-slot-first", "requests"),
+    (Fault::OpenTaken, "open-taken", "requests"),
+    (Fault::CloseTaken, "close-taken", "requests"),
+    (Fault::SubmitRoom, "submit-room", "requests"),
+    (Fault::TakeShort, "take-short", "drained"),
+    (Fault::TakeStays, "take-stays", "drained"),
+    (Fault::SubmitTaken, "submit-taken", "drained"),
+    (Fault::TakeOrder, "take-order", "swap"),
+    (Fault::TakeEarly, "take-early", "repeat"),
+    (Fault::TakeAgain, "take-again", "repeat"),
+    (Fault::TakeBack, "take-back", "repeat"),
 ];
 
 /// A hub with a fault.
@@ -111,6 +162,11 @@ impl<B> Broken<B> {
     }
 }
 
+/// The entry of a slot, a fresh one if there is none.
+fn entry(table: &[Entry], slot: u32) -> Entry {
+    table.get(slot as usize).copied().unwrap_or(Entry::FRESH)
+}
+
 impl<B: Backend> Backend for Broken<B> {
     fn fresh(&mut self) -> [Entry; SLOTS] {
         let mut table = self.hub.fresh();
@@ -126,12 +182,15 @@ impl<B: Backend> Backend for Broken<B> {
         key: u32,
         d: &Descriptor,
     ) -> Answer {
+        let before = entry(table, slot);
         let sees = number::open_sees(self.fault, *stored, table);
         let ask = |seen: &mut u32| self.hub.open(&mut *table, seen, slot, key, d);
         let mut answer = number::asked(stored, sees, ask);
         number::opened(self.fault, &mut answer, stored, table, self.before > slot);
-        if answer.is_done() && self.is(Fault::OpenKey) {
-            table[slot as usize].key = key.wrapping_add(1);
+        if answer.is_done() {
+            let entry = &mut table[slot as usize];
+            entry.key = entry.key.wrapping_add(self.is(Fault::OpenKey).into());
+            take::kept(self.fault, entry, &before);
         }
         self.before = slot;
         answer
@@ -140,7 +199,7 @@ impl<B: Backend> Backend for Broken<B> {
     fn submit(&mut self, lent: Lent<'_>, slot: u32, key: u32, number: u32, part: &[u8]) -> Answer {
         let Lent { table, records, widths } = lent;
         let at = slot as usize;
-        let before = table.get(at).copied().unwrap_or(Entry::FRESH);
+        let before = entry(table, slot);
         let lent = Lent { table: &mut *table, records: &mut *records, widths };
         let mut answer = self.hub.submit(lent, slot, key, number, part);
         match self.fault {
@@ -162,17 +221,30 @@ impl<B: Backend> Backend for Broken<B> {
             }
             Fault::Order if answer.is_done() && self.before > slot => records[AREA * at] ^= 1,
             Fault::Retaken if answer.code == Code::Taken as u32 => table[at].next += 1,
+            fault if answer.is_done() => {
+                take::submitted(fault, &mut answer, &mut table[at], &before);
+            }
             _ => {}
         }
         self.before = slot;
         answer
     }
 
+    fn take(&mut self, lent: Lent<'_>, slot: u32, key: u32, total: u64) -> Answer {
+        let down = self.before > slot;
+        self.before = slot;
+        take::asked(&mut self.hub, self.fault, lent, (slot, key, total), down)
+    }
+
     fn close(&mut self, table: &mut [Entry], stored: &mut u32, slot: u32, key: u32) -> Answer {
+        let before = entry(table, slot);
         let sees = number::close_sees(self.fault, *stored, table);
         let ask = |seen: &mut u32| self.hub.close(&mut *table, seen, slot, key);
         let mut answer = number::asked(stored, sees, ask);
         number::closed(self.fault, &mut answer, stored, table);
+        if answer.is_done() {
+            take::kept(self.fault, &mut table[slot as usize], &before);
+        }
         if answer.is_done() && self.is(Fault::CloseForgets) {
             table[slot as usize].key = 0;
         }

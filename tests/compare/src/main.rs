@@ -1,5 +1,5 @@
-//! The proved library against the peer: parts, requests, scripts; swap, repeat and the stored number on the library's
-//! own memory.
+//! The proved library against the peer: parts, requests, scripts; swap, repeat, the stored number and drained areas on
+//! the library's own memory.
 //!
 //! Without arguments it runs fixed seeds and is the gate's; `--seconds N` goes on from a new seed;
 //! `--break NAME` runs a hub with a fault. The first difference is left as a replay script. The
@@ -12,6 +12,7 @@ mod difference;
 #[path = "../../../peer/tests/common/document.rs"]
 mod document;
 mod documented;
+mod drained;
 mod faults;
 mod history;
 mod options;

@@ -143,7 +143,7 @@ fn interpreted(hub: &mut impl Backend, case: &mut Case) -> Answer {
 /// The direct call as steps; an area of another length is beyond them.
 fn steps(case: &Case) -> Vec<Step> {
     let state = case.state;
-    let entry = Entry { key: 1, mark: 1, descriptor: case.descriptor, state, next: 1 };
+    let entry = Entry { key: 1, mark: 1, descriptor: case.descriptor, state, next: 1, taken: 0 };
     let filler = case.area.first().copied().unwrap_or(0);
     let mut steps = vec![Step::Fill(filler), Step::Set { slot: 0, entry }];
     for (at, &width) in case.widths.iter().enumerate().take(WIDTHS) {

@@ -87,7 +87,7 @@ fn repeat<B: Backend>(
     Ok(())
 }
 
-/// The code that document 01 gives to a request accepted before: 1, 13 or 14 for an open, 1 or 16 else.
+/// The code that the papers give to a request accepted before: 1, 13 or 14 for an open, 1 or 16 else.
 fn acknowledged(step: &Step, table: &[Entry]) -> (&'static str, u32) {
     let entry = |slot: u32| table[slot as usize];
     let (kind, code) = match *step {
@@ -99,6 +99,10 @@ fn acknowledged(step: &Step, table: &[Entry]) -> (&'static str, u32) {
         Step::Submit { slot, key, .. } => match entry(slot) {
             now if now.is_open() && now.key == key => ("submit", Code::Taken),
             _ => ("submit", Code::NoJob),
+        },
+        Step::Take { slot, key, .. } => match entry(slot) {
+            now if now.is_open() && now.key == key => ("take", Code::Taken),
+            _ => ("take", Code::NoJob),
         },
         Step::Close { slot, key } if entry(slot).key == key => ("close", Code::Taken),
         _ => ("close", Code::NoJob),

@@ -14,7 +14,7 @@ const OPEN: &str = "open 0 1 12240 15840 0 0 0 240 0 0 0 65287 14 0\n";
 const SET: &str = "set 0 1 1 9 9 0 0 0 0 0 0 0 0 0 0";
 
 /// Lines that are bad, and end a run.
-const BAD: [&str; 45] = [
+const BAD: [&str; 56] = [
     " ",
     "bad",
     "Count",
@@ -34,6 +34,14 @@ const BAD: [&str; 45] = [
     "submit 0 1 1 2",
     "submit 0 1 1 ",
     "submit 0 1 1 2G",
+    "take",
+    "take 0 1",
+    "take 0 1 2 3",
+    "Take 0 1 2",
+    "take 0 1 -1",
+    "take 0 1 -",
+    "take 0 4294967296 1",
+    "take 0 1 18446744073709551616",
     "show 16",
     "direct 16 -",
     "check",
@@ -59,6 +67,9 @@ const BAD: [&str; 45] = [
     "width 0 256 1",
     "lend 21 0 0",
     "set 0 1 1 9 9 0 0 0 0 0 0 0 0 0 0 0 0 0 0 0 0 0 0 65535 0 2 1 0",
+    "set 0 1 1 9 9 0 0 0 0 0 0 0 0 0 0 0 0 0 0 0 0 0 0 65535 0 0 1 0 4294967296",
+    "set 0 1 1 9 9 0 0 0 0 0 0 0 0 0 0 0 0 0 0 0 0 0 0 65535 0 0 1 0 -0",
+    "set 0 1 1 9 9 0 0 0 0 0 0 0 0 0 0 0 0 0 0 0 0 0 0 65535 0 0 1 0 0 0",
     "set 0 1 1 9 9 0 0 0 0 0 0 0 0 0 0 -32769 0 0 0 0 0 0 0 65535 0 0 1 0",
 ];
 
@@ -91,6 +102,32 @@ fn stored() -> [(String, &'static str); 5] {
     ]
 }
 
+/// Takes, and what an entry is told to have taken.
+fn takes() -> [(String, String); 5] {
+    let set = |taken: &str| format!("{SET} 0 0 0 0 0 0 0 0 65535 0 0 1 0{taken}\nshow 0\n");
+    let job = "JOB 1 1 9 9 0 0 0 0 0 0 0 0 0 0 0 0 0 0 0 0 0 0 65535 0 0 1 0";
+    let part = "submit 0 1 1 C12BD302D8C2\n";
+    [
+        ("take 0 1 0\ntake 16 1 18446744073709551615\n".into(), "16 0 0\n11 0 0\n".into()),
+        (
+            format!("{OPEN}take 0 1 0\ntake 0 1 1\ntake 0 1 18446744073709551615\n"),
+            "0 0 0\n1 0 0\n30 0 0\n30 0 0\n".into(),
+        ),
+        (
+            format!("{OPEN}{part}take 0 1 16\ntake 0 1 0017\ntake 0 1 17\ntake 0 1 34\nbytes 0 16 18\n"),
+            "0 0 0\n0 3 34\n30 0 0\n0 0 0\n1 0 0\n0 0 0\nC211\n".into(),
+        ),
+        (
+            format!("{OPEN}{part}take 0 1 4294967313\nlend 16 65535 1024\ntake 0 1 17\nlend 16 65536 0\ntake 0 1 17\n"),
+            "0 0 0\n0 3 34\n30 0 0\n10 0 0\n0 0 0\n".into(),
+        ),
+        (
+            [set(""), set(" 0"), set(" 4294967295")].concat(),
+            format!("{job} 0\nEND\n{job} 0\nEND\n{job} 4294967295\nEND\n"),
+        ),
+    ]
+}
+
 /// Scripts and what they print.
 fn rows() -> Vec<(Vec<u8>, String)> {
     let row = |script: &str, out: &str| (script.as_bytes().to_vec(), out.to_string());
@@ -99,6 +136,7 @@ fn rows() -> Vec<(Vec<u8>, String)> {
         .map(|line| row(&format!("count\n{line}\ncount\n"), "COUNT 0\nBAD LINE 2\n"))
         .collect();
     rows.extend(stored().iter().map(|(script, out)| row(script, out)));
+    rows.extend(takes().iter().map(|(script, out)| row(script, out)));
     rows.extend([
         row("", ""),
         row("\n\n# any words\n#\ncount\n", "COUNT 0\n"),

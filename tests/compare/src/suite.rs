@@ -9,12 +9,13 @@ use replay::Proved;
 
 use crate::codes::Codes;
 use crate::difference::{differ, shrink, Difference, SCRIPT};
+use crate::drained::Drained;
 use crate::faults::{Broken, Fault, FAULTS};
 use crate::progress::Progress;
 use crate::repeat::Repeated;
 use crate::stored::Counted;
 use crate::swap::Swapped;
-use crate::{documented, parts, repeat, requests, scripts, stored, swap};
+use crate::{documented, drained, parts, repeat, requests, scripts, stored, swap};
 
 /// Seeds of the gate's requests; 400 steps each.
 const REQUEST_SEEDS: u64 = 700;
@@ -23,6 +24,7 @@ const SCRIPT_SEEDS: u64 = 40;
 const SWAP_SEEDS: u64 = 60;
 const REPEAT_SEEDS: u64 = 60;
 const STORED_SEEDS: u64 = 80;
+const DRAINED_SEEDS: u64 = 180;
 /// Fewer comparisons than this are too few.
 const LEAST: u64 = 200_000;
 /// Fewer swaps and repeats than this, of those that say something, are too few.
@@ -98,6 +100,7 @@ impl Suite {
         self.swap(1..=SWAP_SEEDS);
         self.repeat(1..=REPEAT_SEEDS);
         self.stored(1..=STORED_SEEDS);
+        self.drained(1..=DRAINED_SEEDS);
         self.faults();
     }
 
@@ -159,7 +162,7 @@ impl Suite {
         let since = Instant::now();
         print!("answers by code\n{codes}");
         self.tell(
-            complete(codes).map(|()| "every code of 0, 1, 10 to 29, 32 met".to_string()),
+            complete(codes).map(|()| "every code of 0, 1, 10 to 30, 32 met".to_string()),
             since,
         );
     }
@@ -171,15 +174,16 @@ impl Suite {
             sum.join(swap::compare(&self.hub, seed)?);
             Ok(())
         });
-        let Swapped { pairs, accepted, counted } = sum;
+        let Swapped { pairs, accepted, counted, drained } = sum;
         let told = ran
             .map_err(|difference| self.reported(difference))
             .and_then(|()| enough("swaps of two accepted requests", accepted, LEAST_TOLD))
-            .and_then(|()| enough("swaps without a submit", counted, LEAST_RARE))
+            .and_then(|()| enough("swaps of opens and closes", counted, LEAST_RARE))
+            .and_then(|()| enough("swaps with a take", drained, LEAST_RARE))
             .map(|()| {
                 format!(
-                    "{pairs} swaps, {accepted} of two accepted requests, {counted} of these \
-                     without a submit: nothing differs"
+                    "{pairs} swaps, {accepted} of two accepted requests, {counted} of these of \
+                     opens and closes, {drained} with a take: nothing differs"
                 )
             });
         self.tell(told, since);
@@ -197,7 +201,7 @@ impl Suite {
         let told = ran
             .and_then(|()| enough("repeats", times, LEAST_TOLD))
             .and_then(|()| enough("repeats beside a wrong number", wrong, LEAST_TOLD))
-            .and_then(|()| enough("kinds of acknowledgement", answers.len() as u64, 7))
+            .and_then(|()| enough("kinds of acknowledgement", answers.len() as u64, 9))
             .map(|()| {
                 format!(
                     "{times} repeats, {wrong} beside a wrong number, change nothing, answered \
@@ -221,6 +225,26 @@ impl Suite {
                 format!(
                     "{requests} requests from fresh starts, {full} leaving all slots open: the \
                      stored number is the count"
+                )
+            });
+        self.tell(told, since);
+    }
+
+    fn drained(&mut self, mut seeds: impl Iterator<Item = u64>) {
+        let since = Instant::now();
+        let mut sum = Drained::default();
+        let ran = seeds
+            .try_for_each(|seed| drained::compare(&self.hub, seed, &mut sum))
+            .map_err(|difference| self.reported(difference));
+        let Drained { takes, beyond, resent } = sum;
+        let told = ran
+            .and_then(|()| enough("takes", takes, LEAST_RARE))
+            .and_then(|()| enough("parts beyond an area", beyond, LEAST_RARE))
+            .and_then(|()| enough("parts that had to wait for a take", resent, LEAST_RARE))
+            .map(|()| {
+                format!(
+                    "{takes} takes, {beyond} parts beyond an area, {resent} that waited for a \
+                     take: taken and held bytes are what the parts gave"
                 )
             });
         self.tell(told, since);
@@ -292,6 +316,7 @@ impl Suite {
         scripts::compare(&self.hub, round)?;
         swap::compare(&self.hub, round)?;
         stored::compare(&self.hub, round, &mut Counted::default())?;
+        drained::compare(&self.hub, round, &mut Drained::default())?;
         repeat::compare(&self.hub, round, &mut Repeated::default())
     }
 }
@@ -320,6 +345,7 @@ fn found<B: Backend + Clone>(hub: &B, test: &str, real: &[Vec<u8>]) -> Option<Di
             "parts" => parts::compare(hub, seed, real, &mut codes),
             "swap" => swap::compare(hub, seed).map(drop),
             "stored" => stored::compare(hub, seed, &mut Counted::default()),
+            "drained" => drained::compare(hub, seed, &mut Drained::default()),
             _ => repeat::compare(hub, seed, &mut Repeated::default()),
         }
         .err()

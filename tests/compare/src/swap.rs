@@ -17,23 +17,28 @@ pub struct Swapped {
     pub pairs: u64,
     /// Pairs of which both were accepted, so that both changed memory.
     pub accepted: u64,
-    /// Of those the ones without a submit, so that both changed the stored number.
+    /// Of those the ones of opens and closes, so that both changed the stored number.
     pub counted: u64,
+    /// Of those the ones with a take.
+    pub drained: u64,
 }
 
 impl Swapped {
     fn add(&mut self, pair: [(&Step, &Said); 2]) {
         let accepted = pair.iter().all(|(_, said)| is_done(said));
-        let counted = !pair.iter().any(|(step, _)| matches!(step, Step::Submit { .. }));
+        let counts = |step: &Step| matches!(step, Step::Open { .. } | Step::Close { .. });
+        let drains = |step: &Step| matches!(step, Step::Take { .. });
         self.pairs += 1;
         self.accepted += u64::from(accepted);
-        self.counted += u64::from(accepted && counted);
+        self.counted += u64::from(accepted && pair.iter().all(|(step, _)| counts(step)));
+        self.drained += u64::from(accepted && pair.iter().any(|(step, _)| drains(step)));
     }
 
     pub fn join(&mut self, other: Self) {
         self.pairs += other.pairs;
         self.accepted += other.accepted;
         self.counted += other.counted;
+        self.drained += other.drained;
     }
 }
 
@@ -95,9 +100,8 @@ fn request(requests: &mut Requests, at: usize, closes: bool) -> Step {
 
 fn slot(step: &Step) -> Option<u32> {
     match *step {
-        Step::Open { slot, .. } | Step::Submit { slot, .. } | Step::Close { slot, .. } => {
-            Some(slot)
-        }
+        Step::Open { slot, .. } | Step::Close { slot, .. } => Some(slot),
+        Step::Submit { slot, .. } | Step::Take { slot, .. } => Some(slot),
         _ => None,
     }
 }
