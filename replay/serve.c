@@ -9,13 +9,14 @@
 /* Where each lent slice, and the stored number of open jobs, stands in the file; src/proved.rs has the same numbers. */
 enum { TABLE = 0, RECORDS = 4096, NUMBER = 73728, WIDTHS = 77824, PART = 81920, SPAN = 1 << 28 };
 
-enum { FRESH, OPEN, SUBMIT, CLOSE, COUNT, INTERPRET, CHECK, CHECK_AT };
+enum { FRESH, OPEN, SUBMIT, TAKE, CLOSE, COUNT, INTERPRET, CHECK, CHECK_AT };
 
 typedef struct question {
     uint32_t what, slot, key, number;
     uint32_t table, records, widths, part; /* lengths lent */
     halviruso_descriptor descriptor;
     halviruso_state state;
+    uint64_t total;
 } question;
 
 static halviruso_interpreted answer(unsigned char *at, const question *q) {
@@ -32,6 +33,9 @@ static halviruso_interpreted answer(unsigned char *at, const question *q) {
         break;
     case SUBMIT:
         reply.answer = halviruso_submit(table, q->table, at + RECORDS, q->records, widths, q->widths, q->slot, q->key, q->number, at + PART, q->part);
+        break;
+    case TAKE:
+        reply.answer = halviruso_take(table, q->table, at + RECORDS, q->records, q->slot, q->key, q->total);
         break;
     case CLOSE:
         reply.answer = halviruso_close(table, q->table, open_jobs, q->slot, q->key);

@@ -35,11 +35,12 @@ const SPAN: u64 = 1 << 28;
 const FRESH: u32 = 0;
 const OPEN: u32 = 1;
 const SUBMIT: u32 = 2;
-const CLOSE: u32 = 3;
-const COUNT: u32 = 4;
-const INTERPRET: u32 = 5;
-const CHECK: u32 = 6;
-const CHECK_AT: u32 = 7;
+const TAKE: u32 = 3;
+const CLOSE: u32 = 4;
+const COUNT: u32 = 5;
+const INTERPRET: u32 = 6;
+const CHECK: u32 = 7;
+const CHECK_AT: u32 = 8;
 
 /// What is asked, with the lengths lent.
 #[derive(Default)]
@@ -54,6 +55,7 @@ struct Question {
     part: usize,
     descriptor: Descriptor,
     state: [u32; FIELDS],
+    total: u64,
 }
 
 impl Question {
@@ -61,7 +63,10 @@ impl Question {
         let lengths =
             [self.table, self.records, self.widths, self.part].map(|length| length as u32);
         let asked = [self.what, self.slot, self.key, self.number];
-        bytes_of(&[&asked[..], &lengths, &descriptor_words(&self.descriptor), &self.state].concat())
+        let descriptor = descriptor_words(&self.descriptor);
+        let mut bytes = bytes_of(&[&asked[..], &lengths, &descriptor, &self.state].concat());
+        bytes.extend(self.total.to_ne_bytes());
+        bytes
     }
 }
 
@@ -167,6 +172,14 @@ impl Served {
         Ok(answer)
     }
 
+    fn take(&mut self, lent: Lent<'_>, question: Question) -> io::Result<Answer> {
+        let Lent { table, records, .. } = lent;
+        self.file.write_all_at(records, RECORDS)?;
+        let answer = self.request(table, Question { records: records.len(), ..question })?;
+        self.file.read_exact_at(records, RECORDS)?;
+        Ok(answer)
+    }
+
     fn direct(
         &mut self,
         part: &[u8],
@@ -259,6 +272,11 @@ impl Backend for Proved {
     fn submit(&mut self, lent: Lent<'_>, slot: u32, key: u32, number: u32, part: &[u8]) -> Answer {
         let question = Question { what: SUBMIT, slot, key, number, ..Question::default() };
         here(self.0.borrow_mut().submit(lent, part, question))
+    }
+
+    fn take(&mut self, lent: Lent<'_>, slot: u32, key: u32, total: u64) -> Answer {
+        let question = Question { what: TAKE, slot, key, total, ..Question::default() };
+        here(self.0.borrow_mut().take(lent, question))
     }
 
     fn close(&mut self, table: &mut [Entry], stored: &mut u32, slot: u32, key: u32) -> Answer {

@@ -5,7 +5,7 @@ use peer::{Answer, Descriptor, Entry, State};
 /// Numbers of a descriptor, and of a state.
 pub(crate) const FIELDS: usize = 12;
 /// Numbers of an entry.
-pub(crate) const ENTRY: usize = 2 * FIELDS + 3;
+pub(crate) const ENTRY: usize = 2 * FIELDS + 4;
 /// Numbers of a reply: an answer and a state.
 pub(crate) const REPLY: usize = 3 + FIELDS;
 
@@ -94,7 +94,7 @@ pub(crate) fn state_of(words: &[u32]) -> State {
 pub(crate) fn entry_words(entry: &Entry) -> Vec<u32> {
     let ends = [entry.key, entry.mark];
     let (descriptor, state) = (descriptor_words(&entry.descriptor), state_words(&entry.state));
-    [&ends[..], &descriptor, &state, &[entry.next]].concat()
+    [&ends[..], &descriptor, &state, &[entry.next, entry.taken]].concat()
 }
 
 pub(crate) fn entry_of(words: &[u32; ENTRY]) -> Entry {
@@ -104,5 +104,6 @@ pub(crate) fn entry_of(words: &[u32; ENTRY]) -> Entry {
         descriptor: descriptor_of(&words[2..]),
         state: state_of(&words[2 + FIELDS..]),
         next: words[2 + 2 * FIELDS],
+        taken: words[3 + 2 * FIELDS],
     }
 }
