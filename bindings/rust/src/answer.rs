@@ -10,7 +10,7 @@ pub struct Code(pub u32);
 impl Code {
     /// Done.
     pub const DONE: Self = Self(0);
-    /// Already taken: a retry is answered so, and changes nothing.
+    /// Already taken: a retry is answered so, and changes nothing. For a take: as many bytes were taken already.
     pub const ALREADY_TAKEN: Self = Self(1);
     /// A lent length is wrong; from [`interpret`](crate::interpret) only, since a [`Hub`](crate::Hub) lends the right ones.
     pub const LENT_LENGTH: Self = Self(10);
@@ -50,8 +50,10 @@ impl Code {
     pub const OUTSIDE: Self = Self(27);
     /// I or B passes -32,768..32,767: at the element's first byte.
     pub const POSITION: Self = Self(28);
-    /// The record area is full: at the element's first byte.
+    /// The record area is full: at the element's first byte. [`Hub::take`](crate::Hub::take) what was printed, and send the part again.
     pub const NO_ROOM: Self = Self(29);
+    /// A take beyond what was written, or that ends inside a record.
+    pub const BAD_TOTAL: Self = Self(30);
     /// The stored number of open jobs can't be the table's: [`Hub::recount`](crate::Hub::recount), and send again.
     pub const STORED_NUMBER: Self = Self(32);
 
@@ -80,6 +82,7 @@ impl Code {
             Self::OUTSIDE => "outside",
             Self::POSITION => "position",
             Self::NO_ROOM => "no room",
+            Self::BAD_TOTAL => "bad total",
             Self::STORED_NUMBER => "stored number wrong",
             _ => return None,
         })
@@ -122,9 +125,9 @@ mod tests {
     use super::*;
 
     #[test]
-    fn the_twenty_three_codes_have_words() {
+    fn the_twenty_four_codes_have_words() {
         let named: Vec<u32> = (0..=100).filter(|&n| Code(n).meaning().is_some()).collect();
-        let paper: Vec<u32> = [0, 1].into_iter().chain(10..=29).chain([32]).collect();
+        let paper: Vec<u32> = [0, 1].into_iter().chain(10..=30).chain([32]).collect();
         assert_eq!(named, paper);
     }
 

@@ -25,9 +25,9 @@ pub(crate) fn to_table(bytes: &[u8; TABLE]) -> Table {
 /// A table's numbers, to read or to write, so that their order is said once.
 fn numbers(table: &mut Table) -> impl Iterator<Item = &mut u32> {
     table.entries.iter_mut().flat_map(|entry| {
-        let Entry { key, mark, descriptor, state, next } = entry;
+        let Entry { key, mark, descriptor, state, next, taken } = entry;
         let (descriptor, state) = (of_descriptor(descriptor), of_state(state));
-        [key, mark].into_iter().chain(descriptor).chain(state).chain([next])
+        [key, mark].into_iter().chain(descriptor).chain(state).chain([next, taken])
     })
 }
 

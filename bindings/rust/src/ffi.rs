@@ -32,6 +32,15 @@ mod c {
             part: *const u8,
             part_length: usize,
         ) -> Answer;
+        pub fn halviruso_take(
+            table: *mut Entry,
+            table_length: usize,
+            records: *mut u8,
+            records_length: usize,
+            slot: u32,
+            key: u32,
+            total: u64,
+        ) -> Answer;
         pub fn halviruso_close(
             table: *mut Entry,
             table_length: usize,
@@ -98,6 +107,19 @@ pub(crate) fn submit(lent: Lent<'_>, slot: u32, key: u32, number: u32, part: &[u
             part.len(),
         )
     }
+}
+
+pub(crate) fn take(
+    table: &mut Table,
+    records: &mut [u8],
+    slot: u32,
+    key: u32,
+    total: u64,
+) -> Answer {
+    let table = &mut table.entries;
+    let (entries, bytes) = (table.as_mut_ptr(), records.as_mut_ptr());
+    // SAFETY: each pointer and length are one slice's; both are borrowed alone, so they don't overlap.
+    unsafe { c::halviruso_take(entries, table.len(), bytes, records.len(), slot, key, total) }
 }
 
 pub(crate) fn close(table: &mut Table, open_jobs: &mut u32, slot: u32, key: u32) -> Answer {

@@ -35,6 +35,26 @@ impl Hub {
     /// Any bytes are taken. An open entry with a number out of range is answered 12. A
     /// wrong number that is in range, or a wrong record byte, is not seen: where files may
     /// go bad, keep a checksum with them.
+    ///
+    /// Before entries had [`Entry::taken`], a table was 16 times 108 bytes. Nothing was taken
+    /// then, so four zeros behind each entry make it one of these:
+    ///
+    /// ```
+    /// # use halviruso::{Code, Descriptor, Hub, Point, RECORDS, TABLE};
+    /// # let sheet = Descriptor { size: Point { i: 1_440, b: 1_440 }, ..Descriptor::default() };
+    /// # let mut hub = Hub::new();
+    /// # assert_eq!(hub.open(15, 7, sheet).code, Code::DONE);
+    /// # let now = hub.table_bytes();
+    /// # let older: Vec<u8> = now.chunks(112).flat_map(|entry| &entry[..108]).copied().collect();
+    /// # let records = [0; RECORDS];
+    /// let mut table = [0; TABLE];
+    /// for (entry, older) in table.chunks_mut(112).zip(older.chunks(108)) {
+    ///     entry[..108].copy_from_slice(older);
+    /// }
+    /// let mut hub = Hub::from_memory(&table, &records);
+    /// # assert_eq!((older.len(), hub.open_jobs()), (1_728, 1));
+    /// # assert_eq!(hub.close(15, 7).code, Code::DONE);
+    /// ```
     pub fn from_memory(table: &[u8; TABLE], records: &[u8; RECORDS]) -> Self {
         let table = Box::new(bytes::to_table(table));
         let open_jobs = ffi::count(&table);
@@ -60,6 +80,46 @@ impl Hub {
     ) -> Answer {
         let Self { table, records, .. } = self;
         ffi::submit(Lent { table, records: &mut records[..], widths }, slot, key, number, part)
+    }
+
+    /// Takes records out of the job's area, from its start: the printer has read `total`
+    /// record bytes since the job was opened, this time's and all before.
+    ///
+    /// The unread ones move down to the start, and later parts use the room. Bytes past the
+    /// new end keep what they held. [`Entry::taken`] is then `total`: a take that is sent
+    /// again is answered 1, and moves nothing twice. A total beyond what was written, or one
+    /// that ends inside a record, is answered 30 ([`Code::BAD_TOTAL`](crate::Code::BAD_TOTAL)).
+    ///
+    /// A printer reads whole records from the start of the area, and counts on from `taken`.
+    /// It takes before the close: a closed job answers 16, and its records stay.
+    ///
+    /// ```
+    /// use halviruso::{Code, Descriptor, Hub, Point, WIDTHS};
+    ///
+    /// let sheet = Descriptor { size: Point { i: 1_440, b: 1_440 }, ..Descriptor::default() };
+    /// let (widths, mut hub) = ([144; WIDTHS], Hub::new());
+    /// assert_eq!(hub.open(3, 7, sheet).code, Code::DONE);
+    /// assert_eq!(hub.submit(&widths, 3, 7, 1, b"\xC1\xC2").code, Code::DONE);
+    /// assert_eq!(hub.submit(&widths, 3, 7, 2, b"\xC3").code, Code::DONE);
+    ///
+    /// // The printer draws the first record; what it hasn't stepped over is the rest.
+    /// let mut records = hub.records(3);
+    /// let before = records.rest().len();
+    /// let drawn = records.next();
+    /// assert!(drawn.is_some());
+    /// let read = before - records.rest().len();
+    /// let total = u64::from(hub.entry(3).unwrap().taken) + read as u64;
+    /// assert_eq!((total, hub.take(3, 7, total).code), (18, Code::DONE));
+    ///
+    /// // The second record is the first one now. No reply in time? The same take again is safe.
+    /// assert_eq!(hub.records(3).count(), 1);
+    /// assert_eq!(hub.take(3, 7, total).code, Code::ALREADY_TAKEN);
+    /// // It ends at 35, and nowhere before.
+    /// assert_eq!(hub.take(3, 7, 34).code, Code::BAD_TOTAL);
+    /// assert_eq!(hub.take(3, 7, 35).code, Code::DONE);
+    /// ```
+    pub fn take(&mut self, slot: u32, key: u32, total: u64) -> Answer {
+        ffi::take(&mut self.table, &mut self.records[..], slot, key, total)
     }
 
     /// Closes the job of this key. Its records stay until the slot's next job writes over them.
@@ -93,6 +153,7 @@ impl Hub {
     }
 
     /// The records of a slot's job in the order of its parts, of a closed job too; none above slot 15.
+    /// Those that were [taken](Self::take) are gone.
     ///
     /// Before the first step, `rest` has their bytes.
     pub fn records(&self, slot: u32) -> Records<'_> {

@@ -77,6 +77,34 @@
 //! assert_eq!(direct.answer, answer);
 //! ```
 //!
+//! # Long jobs
+//!
+//! An area holds 4,096 bytes, and a long job writes more. A printer reads the records that
+//! stand there and says by [`Hub::take`] how many bytes it has read since the job was
+//! opened; then there is room for the parts to come. A part that found none is sent again.
+//!
+//! ```
+//! # use halviruso::{Code, Descriptor, Hub, Point, WIDTHS};
+//! # let sheet = Descriptor { size: Point { i: 12_240, b: 15_840 }, ..Descriptor::default() };
+//! # let widths = [1; WIDTHS];
+//! # let mut hub = Hub::new();
+//! # let mut printed = Vec::new();
+//! # assert_eq!(hub.open(3, 7, sheet).code, Code::DONE);
+//! for number in 1..=10 {
+//!     let part = [0xC0 + number as u8; 1_000];
+//!     if hub.submit(&widths, 3, 7, number, &part).code == Code::NO_ROOM {
+//!         printed.extend(hub.records(3).map(|record| format!("{record:?}")));
+//!         let entry = hub.entry(3).unwrap();
+//!         let read = u64::from(entry.taken) + u64::from(entry.state.used);
+//!         assert_eq!(hub.take(3, 7, read).code, Code::DONE);
+//!         assert_eq!(hub.submit(&widths, 3, 7, number, &part).code, Code::DONE);
+//!     }
+//! }
+//! // Four parts of 1,016 record bytes fit at a time, and two are left.
+//! assert_eq!((printed.len(), hub.records(3).count()), (8, 2));
+//! # assert_eq!((hub.table()[3].taken, hub.table()[3].state.used), (8 * 1_016, 2 * 1_016));
+//! ```
+//!
 //! # Jobs with different width tables
 //!
 //! Each part is placed by the table that it is submitted with. The host remembers which
@@ -172,8 +200,8 @@ pub use shapes::{Descriptor, Entry, Interpreted, Point, State};
 
 /// Entries of the table.
 pub const SLOTS: usize = 16;
-/// Bytes of the table: 16 entries of 27 numbers.
-pub const TABLE: usize = SLOTS * 108;
+/// Bytes of the table: 16 entries of 28 numbers.
+pub const TABLE: usize = SLOTS * 112;
 /// Bytes of one job's record area.
 pub const AREA: usize = 4_096;
 /// Bytes of the record buffer; slot s owns the 4,096 from 4,096 times s.

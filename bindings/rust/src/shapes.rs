@@ -65,7 +65,7 @@ pub struct State {
     pub suppression: u32,
     /// 1 while a chain is open.
     pub chain: u32,
-    /// Bytes of the record area in use.
+    /// Bytes of the record area in use: written and not taken.
     pub used: u32,
 }
 
@@ -106,6 +106,8 @@ pub struct Entry {
     pub state: State,
     /// The next part's number.
     pub next: u32,
+    /// Record bytes taken since the job was opened: the next [`Hub::take`](crate::Hub::take) says this and what was read since.
+    pub taken: u32,
 }
 
 impl Entry {
@@ -131,12 +133,12 @@ mod tests {
     #[test]
     fn layout_is_the_header_s() {
         assert_eq!((size_of::<Point>(), size_of::<Descriptor>(), size_of::<State>()), (8, 48, 48));
-        assert_eq!((size_of::<Entry>(), size_of::<Table>(), align_of::<Table>()), (108, TABLE, 4));
+        assert_eq!((size_of::<Entry>(), size_of::<Table>(), align_of::<Table>()), (112, TABLE, 4));
         assert_eq!((offset_of!(Descriptor, size), offset_of!(Descriptor, hidden)), (0, 44));
         assert_eq!((offset_of!(State, at), offset_of!(State, space)), (0, 32));
         assert_eq!((offset_of!(State, chain), offset_of!(State, used)), (40, 44));
         assert_eq!((offset_of!(Entry, descriptor), offset_of!(Entry, state)), (8, 56));
-        assert_eq!(offset_of!(Entry, next), 104);
+        assert_eq!((offset_of!(Entry, next), offset_of!(Entry, taken)), (104, 108));
         assert_eq!((size_of::<Interpreted>(), offset_of!(Interpreted, state)), (60, 12));
     }
 

@@ -73,7 +73,7 @@ fn bytes_lie_as_the_header_says() {
     let table: [u8; TABLE] =
         array::from_fn(|at| [(at / 4) as u8, 7 + (at / 1_024) as u8, 251, 252][at % 4]);
     let hub = Hub::from_memory(&table, &[0; 65_536]);
-    for (entry, bytes) in hub.table().iter().zip(table.chunks(108)) {
+    for (entry, bytes) in hub.table().iter().zip(table.chunks(112)) {
         assert_eq!(entry, &entry_of(bytes));
     }
     assert_eq!(hub.table_bytes(), table);
@@ -107,7 +107,7 @@ fn entry_of(bytes: &[u8]) -> Entry {
         chain: at(96),
         used: at(100),
     };
-    Entry { key: at(0), mark: at(4), descriptor, state, next: at(104) }
+    Entry { key: at(0), mark: at(4), descriptor, state, next: at(104), taken: at(108) }
 }
 
 /// Bytes without a pattern.
@@ -129,6 +129,7 @@ fn any_bytes_make_a_hub() {
             let Entry { key, next, .. } = before.table()[slot as usize];
             assert_eq!(hub.open(slot, key, Descriptor::default()).code, Code::DAMAGED);
             assert_eq!(hub.submit(&TENTH, slot, key, next, b"").code, Code::DAMAGED);
+            assert_eq!(hub.take(slot, key, 1).code, Code::DAMAGED);
             assert_eq!(hub.close(slot, key).code, Code::DAMAGED);
             assert!(hub.records(slot).count() <= AREA / 16);
         }
@@ -140,7 +141,7 @@ fn any_bytes_make_a_hub() {
 #[test]
 fn closed_slots_may_hold_any_numbers() {
     let mut table: [u8; TABLE] = noise(4);
-    for entry in table.chunks_mut(108) {
+    for entry in table.chunks_mut(112) {
         entry[..8].copy_from_slice(&[5, 0, 0, 0, 0, 0, 0, 0]);
     }
     let mut hub = Hub::from_memory(&table, &noise(5));

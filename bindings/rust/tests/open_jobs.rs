@@ -31,14 +31,15 @@ impl Chance {
 
     /// Any request on any slot, with keys and numbers that often fit.
     fn request(&mut self, hub: &mut Hub) -> Code {
-        let (slot, what) = (self.below(17), self.below(8));
+        let (slot, what) = (self.below(17), self.below(9));
         let last = hub.entry(slot).map_or(0, |entry| entry.key);
         let key = last.wrapping_add(self.below(3));
         let answer = match what {
             0..=2 => hub.open(slot, key, sheet()),
             3 => hub.open(slot, key, Descriptor::default()),
             4..=6 => hub.close(slot, key),
-            _ => hub.submit(&TENTH, slot, key, 1 + self.below(3), b"\xC1"),
+            7 => hub.submit(&TENTH, slot, key, 1 + self.below(3), b"\xC1"),
+            _ => hub.take(slot, key, u64::from(17 * self.below(4))),
         };
         answer.code
     }
@@ -66,7 +67,7 @@ fn it_is_counted_where_memory_is_put_back() {
     let mut chance = Chance(2);
     for _ in 0..200 {
         // A quarter of these entries are closed, and the others damaged.
-        let table: [u8; TABLE] = array::from_fn(|at| match at % 108 {
+        let table: [u8; TABLE] = array::from_fn(|at| match at % 112 {
             4 => chance.below(4) as u8,
             5..=7 => 0,
             _ => chance.below(256) as u8,
