@@ -4,7 +4,7 @@ import re
 from face import Unread, libraries, past, tokens
 from rattle import content, paths
 
-NUMBERS = {'u8': 'uint8_t', 'u16': 'uint16_t', 'u32': 'uint32_t'}
+NUMBERS = {'u8': 'uint8_t', 'u16': 'uint16_t', 'u32': 'uint32_t', 'u64': 'uint64_t'}
 DECLARED = re.compile(r'(\w+) (halviruso_\w+)\(([^)]*)\);')
 
 

@@ -75,7 +75,7 @@ static void numbers_and_neighbours(void)
 
     start();
     for (uint32_t slot = 0; slot < HALVIRUSO_SLOTS; slot++) {
-        halviruso_entry expected = {UINT32_MAX - slot, 1, UNLIKE, BEGUN, 1};
+        halviruso_entry expected = {UINT32_MAX - slot, 1, UNLIKE, BEGUN, 1, 0};
 
         CHECK(is(open_job(slot, UINT32_MAX - slot, UNLIKE), HALVIRUSO_DONE, 0, 0));
         kept.table.entries[slot] = expected;
@@ -243,18 +243,25 @@ static void refusals_point_at_a_byte(void)
     CHECK(untouched());
 }
 
+static halviruso_answer take(uint32_t slot, uint32_t key, uint64_t total)
+{
+    return halviruso_take(lent.table.entries, HALVIRUSO_SLOTS, lent.records, HALVIRUSO_RECORDS, slot, key, total);
+}
+
 /* docs/HOSTS.md, "When a reply is late": accepted requests that come again change nothing, and what they are answered. */
 static void late_requests(void)
 {
-    static const uint32_t codes[4][3] = {{1, 1, 0}, {14, 16, 1}, {13, 16, 16}, {14, 16, 16}}; /* open, submit, close */
+    static const uint32_t codes[4][3] = {{1, 1, 0}, {14, 16, 1}, {13, 16, 16}, {14, 16, 16}}; /* open, submit and take, close */
 
     start();
     CHECK(open_job(5, 7, UNLIKE).code == HALVIRUSO_DONE);
-    CHECK(submit(5, 7, 1, NULL, 0).code == HALVIRUSO_DONE);
+    CHECK(submit(5, 7, 1, (const uint8_t *)"\xC1", 1).code == HALVIRUSO_DONE);
+    CHECK(take(5, 7, 17).code == HALVIRUSO_DONE);
     for (size_t at = 0; at < 4; at++) {
         kept = lent;
         CHECK(open_job(5, 7, UNLIKE).code == codes[at][0]);
-        CHECK(submit(5, 7, 1, NULL, 0).code == codes[at][1]);
+        CHECK(submit(5, 7, 1, (const uint8_t *)"\xC1", 1).code == codes[at][1]);
+        CHECK(take(5, 7, 17).code == codes[at][1]);
         CHECK(untouched());
         /* while the job is open this is its first close; then the next job is opened, and closed */
         CHECK(close_job(5, 7).code == codes[at][2]);

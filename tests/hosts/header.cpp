@@ -1,8 +1,8 @@
 // The header in C++17: it compiles, and every function links and answers. Status 0 when all codes are the expected ones.
 #include "halviruso.h"
 
-static_assert(sizeof(halviruso_entry) == 108, "layout");
-static_assert(sizeof(halviruso_table) == 1728, "layout");
+static_assert(sizeof(halviruso_entry) == 112, "layout");
+static_assert(sizeof(halviruso_table) == 1792, "layout");
 static_assert(sizeof(halviruso_interpreted) == 60, "layout");
 
 static halviruso_table table;
@@ -27,6 +27,8 @@ int main()
     wrong += halviruso_interpret(part, sizeof part, widths, HALVIRUSO_WIDTHS, records, HALVIRUSO_AREA, sheet(), table.entries[0].state).answer.second != 17;
     wrong += halviruso_submit(table.entries, HALVIRUSO_SLOTS, records, HALVIRUSO_RECORDS, widths, HALVIRUSO_WIDTHS, 0, 1, 1, part, sizeof part).second != 17;
     wrong += halviruso_count(table.entries, HALVIRUSO_SLOTS) != 1 || open_jobs != 1;
+    wrong += halviruso_take(table.entries, HALVIRUSO_SLOTS, records, HALVIRUSO_RECORDS, 0, 1, (UINT64_C(1) << 32) + 17).code != HALVIRUSO_BAD_TOTAL;
+    wrong += halviruso_take(table.entries, HALVIRUSO_SLOTS, records, HALVIRUSO_RECORDS, 0, 1, 17).code != HALVIRUSO_DONE || table.entries[0].taken != 17;
     open_jobs = 17;
     wrong += halviruso_close(table.entries, HALVIRUSO_SLOTS, &open_jobs, 0, 1).code != HALVIRUSO_STORED_NUMBER || open_jobs != 17;
     open_jobs = 1;

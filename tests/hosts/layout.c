@@ -33,14 +33,15 @@ AT(state, suppression, 36);
 AT(state, chain, 40);
 AT(state, used, 44);
 
-SIZE(entry, 108);
+SIZE(entry, 112);
 AT(entry, key, 0);
 AT(entry, mark, 4);
 AT(entry, descriptor, 8);
 AT(entry, state, 56);
 AT(entry, next, 104);
+AT(entry, taken, 108);
 
-SIZE(table, 1728);
+SIZE(table, 1792);
 AT(table, entries, 0);
 
 SIZE(answer, 12);
@@ -55,8 +56,9 @@ AT(interpreted, state, 12);
 _Static_assert(_Alignof(halviruso_table) == 4, "alignment of a table");
 _Static_assert(HALVIRUSO_RECORDS == HALVIRUSO_SLOTS * HALVIRUSO_AREA, "an area for each slot");
 
-/* What open and close take, in their order; the number is lent by its address. */
+/* What open, close and take are given, in their order; the number is lent by its address, the total has 64 bits. */
 #define TAKES(function, ...) _Static_assert(_Generic(&halviruso_##function, halviruso_answer (*)(__VA_ARGS__): 1, default: 0), "arguments of " #function)
 
 TAKES(open, halviruso_entry *, size_t, uint32_t *, uint32_t, uint32_t, halviruso_descriptor);
 TAKES(close, halviruso_entry *, size_t, uint32_t *, uint32_t, uint32_t);
+TAKES(take, halviruso_entry *, size_t, uint8_t *, size_t, uint32_t, uint32_t, uint64_t);
