@@ -51,7 +51,7 @@ halviruso_state a_state(const halviruso_descriptor *d) {
 }
 
 halviruso_entry an_entry(void) {
-    static const uint32_t NEXT[] = {1, 1, 1, 2, 65535, 65536};
+    static const uint32_t NEXT[] = {1, 1, 1, 2, 65535, 65536}, TAKEN[] = {0, 0, 17, 4096, 65536, UINT32_MAX - 4096, UINT32_MAX - 17, UINT32_MAX};
     halviruso_entry e;
     if (once_in(16)) {
         for (size_t at = 0; at < sizeof e / sizeof(uint32_t); at++)
@@ -63,6 +63,7 @@ halviruso_entry an_entry(void) {
     e.descriptor = a_descriptor();
     e.state = a_state(&e.descriptor);
     e.next = once_in(20) ? any() : PICK(NEXT);
+    e.taken = once_in(4) ? any() : PICK(TAKEN);
     return e;
 }
 

@@ -8,24 +8,26 @@
 
 #include "chance.h"
 #include "stored.h"
+#include "taking.h"
 #include "things.h"
 
 enum { ENTRY = sizeof(halviruso_entry), MOST_ENTRIES = 24, MOST_RECORDS = 70000, MOST_AREA = 4400, MOST_WIDTHS = 1200 };
-enum { OPEN, SUBMIT, CLOSE, COUNT, INTERPRET, CHECK, CHECK_AT, FRESH, ENTRIES };
+enum { OPEN, SUBMIT, TAKE, CLOSE, COUNT, INTERPRET, CHECK, CHECK_AT, FRESH, ENTRIES };
 enum { CODES = 33 };
 
-static const char *const NAMES[] = {"open", "submit", "close", "count", "interpret", "check", "check_at", "fresh"};
+static const char *const NAMES[] = {"open", "submit", "take", "close", "count", "interpret", "check", "check_at", "fresh"};
 
 static lend table, records, area, stored, widths, part;
 static enum side guarded;
 static int around_changes, within_changes, answer_changes, place_changes, place_leaves, record_empties, increment_passes, busy_counts, close_stays,
-    stored_first; /* wrong on purpose */
+    stored_first, take_zeroes, take_forgets, take_moves_fewer, total_cut, boundary_passes; /* wrong on purpose */
 
 /* What was lent, as it must be after the call. */
 static halviruso_entry old_table[MOST_ENTRIES];
 static unsigned char old_records[MOST_RECORDS], old_area[MOST_AREA], old_part[LONGEST];
 static uint16_t old_widths[MOST_WIDTHS];
 static uint32_t old_stored;
+static taking asked; /* the take at hand */
 
 static size_t entries, width_count, part_bytes;
 
@@ -68,6 +70,11 @@ void tries_start(enum side side, const char *wrong) {
     busy_counts = strcmp(wrong, "busy") == 0;
     close_stays = strcmp(wrong, "close") == 0;
     stored_first = strcmp(wrong, "early") == 0;
+    take_zeroes = strcmp(wrong, "zeroes") == 0;
+    take_forgets = strcmp(wrong, "forgets") == 0;
+    take_moves_fewer = strcmp(wrong, "fewer") == 0;
+    total_cut = strcmp(wrong, "cut") == 0;
+    boundary_passes = strcmp(wrong, "boundary") == 0;
     signal(SIGSEGV, on_fault);
     signal(SIGBUS, on_fault);
 }
@@ -160,6 +167,8 @@ static halviruso_answer spoiled(halviruso_answer a) {
         a.first = (uint32_t)part_bytes;
     if (stored_first && ((entry == OPEN && !open_takes(old_stored)) || (entry == CLOSE && !close_takes(old_stored))))
         a.code = HALVIRUSO_STORED_NUMBER;
+    if (boundary_passes && a.code == HALVIRUSO_BAD_TOTAL && total_fits(&asked))
+        a.code = HALVIRUSO_DONE;
     return a;
 }
 
@@ -292,6 +301,70 @@ static void try_submit(void) {
     expect_kept(&records, old_records);
 }
 
+/* Where the harness writes to a byte that is lent. */
+static unsigned char *own(const lend *l, size_t from) {
+    return l->own + (l->at - l->span) + from;
+}
+
+/* The slot's memory as it would be if what is wrong on purpose were so. */
+static void spoil_take(uint32_t slot) {
+    uint32_t bytes = (uint32_t)asked.total - asked.before.taken, left = asked.before.state.used - bytes;
+    unsigned char *area_now = own(&records, (size_t)slot * HALVIRUSO_AREA);
+    if (take_zeroes)
+        memset(area_now + left, 0, bytes);
+    if (take_moves_fewer && left > 0)
+        area_now[left - 1] = asked.area[left - 1];
+    if (take_forgets)
+        ((halviruso_entry *)(void *)own(&table, slot * ENTRY))->taken = asked.before.taken;
+}
+
+/* Of what was lent, the slot's entry says what was taken, and its unread bytes have moved; the bytes past them are as they were. */
+static void allow_take(uint32_t slot) {
+    unsigned char *area_then = old_records + (size_t)slot * HALVIRUSO_AREA;
+    uint32_t bytes = (uint32_t)asked.total - asked.before.taken;
+    memmove(area_then, area_then + bytes, asked.before.state.used - bytes);
+    old_table[slot] = asked.after;
+}
+
+static uint32_t taken(uint32_t slot, uint32_t key, uint64_t total) {
+    int is_slot = slot < entries && slot < HALVIRUSO_SLOTS;
+    asked = (taking){.total = total, .before = is_slot ? old_table[slot] : (halviruso_entry){0}};
+    asked.area = old_records + (is_slot ? (size_t)slot * HALVIRUSO_AREA : 0);
+    inside = 1;
+    halviruso_answer a = halviruso_take(at(&table), entries, at(&records), records.size, slot, key, total_cut ? (uint32_t)total : total);
+    inside = 0;
+    asked.code = expect_answer(a, BITS(0, 1) | BITS(10, 12) | BITS(16, 16) | BITS(30, 30));
+    int heard = asked.code <= 1 || asked.code == HALVIRUSO_BAD_TOTAL;
+    expect(!heard || (is_slot && asked.before.mark == 1 && asked.before.key == key), "a take from a job that isn't there");
+    if (a.code == HALVIRUSO_DONE) {
+        spoil_take(slot);
+        memcpy(&asked.after, table.at + slot * ENTRY, ENTRY);
+    }
+    const char *what = heard ? take_fault(&asked) : NULL;
+    expect(what == NULL, what);
+    if (asked.code == HALVIRUSO_DONE)
+        allow_take(slot);
+    expect_kept(&table, old_table);
+    expect_kept(&records, old_records);
+    return asked.code;
+}
+
+static void try_take(void) {
+    lend_table();
+    lend_records(&records, old_records, HALVIRUSO_RECORDS);
+    uint32_t slot = a_slot(), key = key_of(slot);
+    size_t from = (size_t)slot * HALVIRUSO_AREA;
+    int is_slot = slot < entries && from + HALVIRUSO_AREA <= records.size;
+    halviruso_entry e = is_slot ? old_table[slot] : (halviruso_entry){0};
+    if (is_slot) {
+        an_area(old_records + from, e.state.used);
+        lend_put(&records, old_records);
+    }
+    uint64_t total = a_total(old_records + (is_slot ? from : 0), &e);
+    if (taken(slot, key, total) == HALVIRUSO_DONE)
+        expect(taken(slot, key, total) == HALVIRUSO_ALREADY_TAKEN, "a take sent again that isn't answered 1");
+}
+
 static uint32_t closed(uint32_t slot, uint32_t key) {
     uint32_t walked_before = walked();
     inside = 1;
@@ -385,9 +458,9 @@ static void try_fresh(void) {
 }
 
 void try_one(void) {
-    static void (*const TRIES[])(void) = {try_open, try_submit, try_close, try_count, try_interpret, try_check, try_check_at, try_fresh};
-    static const unsigned char TURNS[] = {OPEN,  OPEN,      SUBMIT,    SUBMIT,    SUBMIT,    SUBMIT, CLOSE, CLOSE,
-                                          COUNT, INTERPRET, INTERPRET, INTERPRET, INTERPRET, CHECK,  CHECK, CHECK_AT};
+    static void (*const TRIES[])(void) = {try_open, try_submit, try_take, try_close, try_count, try_interpret, try_check, try_check_at, try_fresh};
+    static const unsigned char TURNS[] = {OPEN,  OPEN,  SUBMIT,    SUBMIT,    SUBMIT,    SUBMIT,    TAKE,  TAKE,  CLOSE,
+                                          CLOSE, COUNT, INTERPRET, INTERPRET, INTERPRET, INTERPRET, CHECK, CHECK, CHECK_AT};
     entry = once_in(50) ? FRESH : PICK(TURNS);
     TRIES[entry]();
     calls_made++;
