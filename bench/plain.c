@@ -1,4 +1,4 @@
-/* The same interpreting in plain C, to measure against: one pass, the state in locals, the types in a table by index, the records in scratch
+/* The same interpreting and taking in plain C, to measure against: one pass, the state in locals, the types in a table by index, the records in scratch
  * bytes until every element has passed. The order of the tests is the paper's. Little-endian machines, as the records are. */
 #include <limits.h>
 #include <string.h>
@@ -329,4 +329,50 @@ halviruso_interpreted plain_interpret(const uint8_t *part, size_t part_length, c
     w.s.at.i = (uint32_t)(w.i + 32768);
     w.s.at.b = (uint32_t)(w.b + 32768);
     return (halviruso_interpreted){{0, elements, w.s.used - state.used}, w.s};
+}
+
+static int is_damaged(const halviruso_entry *entry) {
+    return entry->mark != 0 && !(entry->mark == 1 && is_descriptor(&entry->descriptor) && is_state(&entry->state) && entry->next - 1 < 65536);
+}
+
+/* Whether steps from record to record, by their lengths, meet this many bytes. */
+static inline int ends_after(const uint8_t *area, uint32_t used, uint32_t bytes) {
+    uint32_t at = 0;
+    while (at < bytes && used - at >= 16) {
+        uint16_t length;
+        memcpy(&length, area + at, sizeof length);
+        if (length < 16 || length > used - at)
+            break;
+        at += length;
+    }
+    return at == bytes;
+}
+
+static uint32_t taking(halviruso_entry *entry, uint8_t *area, uint64_t total) {
+    uint32_t used = entry->state.used;
+    if (total <= entry->taken)
+        return 1;
+    if (total > UINT32_MAX || total - entry->taken > used)
+        return 30;
+    uint32_t bytes = (uint32_t)total - entry->taken;
+    if (!ends_after(area, used, bytes))
+        return 30;
+    memmove(area, area + bytes, used - bytes);
+    entry->state.used = used - bytes;
+    entry->taken = (uint32_t)total;
+    return 0;
+}
+
+halviruso_answer plain_take(halviruso_entry *table, size_t table_length, uint8_t *records, size_t records_length, uint32_t slot, uint32_t key,
+                            uint64_t total) {
+    if (table_length != HALVIRUSO_SLOTS || records_length != HALVIRUSO_RECORDS)
+        return (halviruso_answer){10, 0, 0};
+    if (slot >= HALVIRUSO_SLOTS)
+        return (halviruso_answer){11, 0, 0};
+    halviruso_entry *entry = table + slot;
+    if (is_damaged(entry))
+        return (halviruso_answer){12, 0, 0};
+    if (entry->mark == 0 || entry->key != key)
+        return (halviruso_answer){16, 0, 0};
+    return (halviruso_answer){taking(entry, records + (size_t)HALVIRUSO_AREA * slot, total), 0, 0};
 }

@@ -38,19 +38,23 @@ impl Case {
 
     /// Descriptor, state, widths and part as bytes, for `once.c`.
     pub fn bytes(&self) -> Vec<u8> {
-        let (d, s) = (&self.descriptor, &self.state);
-        let descriptor = [
-            [d.size_i, d.size_b, d.initial_i, d.initial_b, d.margin, d.increment],
-            [d.adjustment, d.direction, d.font, d.colour, d.rule, d.hidden],
-        ];
-        let state = [
-            [s.i, s.b, s.margin, s.increment, s.adjustment, s.direction],
-            [s.font, s.colour, s.space, s.suppression, s.chain, s.used],
-        ];
-        let numbers = descriptor.into_iter().chain(state).flatten();
-        let mut bytes: Vec<u8> = numbers.flat_map(u32::to_le_bytes).collect();
+        let numbers = numbers(&self.descriptor, &self.state);
+        let mut bytes: Vec<u8> = numbers.into_iter().flat_map(u32::to_le_bytes).collect();
         bytes.extend(self.widths.iter().flat_map(|width| width.to_le_bytes()));
         bytes.extend(&self.part);
         bytes
     }
+}
+
+/// The numbers of a descriptor and of a state, in the order of include/halviruso.h.
+pub fn numbers(d: &Descriptor, s: &State) -> Vec<u32> {
+    let descriptor = [
+        [d.size_i, d.size_b, d.initial_i, d.initial_b, d.margin, d.increment],
+        [d.adjustment, d.direction, d.font, d.colour, d.rule, d.hidden],
+    ];
+    let state = [
+        [s.i, s.b, s.margin, s.increment, s.adjustment, s.direction],
+        [s.font, s.colour, s.space, s.suppression, s.chain, s.used],
+    ];
+    descriptor.into_iter().chain(state).flatten().collect()
 }

@@ -1,6 +1,7 @@
-//! What is linked from C: the plain interpreting, and the proved library where it was made for this machine. The one place that declares either.
+//! What is linked from C: the plain interpreting and taking, and the proved library where it was made for this machine. The one place that declares either.
 
-use peer::{Answer, Descriptor, State};
+use peer::hub::Lent;
+use peer::{Answer, Descriptor, Entry, State};
 
 /// What interpreting hands back.
 #[repr(C)]
@@ -21,6 +22,23 @@ extern "C" {
         d: Descriptor,
         s: State,
     ) -> Interpreted;
+    fn plain_take(
+        table: *mut Entry,
+        entries: usize,
+        records: *mut u8,
+        record_bytes: usize,
+        slot: u32,
+        key: u32,
+        total: u64,
+    ) -> Answer;
+}
+
+/// The plain C's taking.
+pub fn taking(lent: Lent<'_>, slot: u32, key: u32, total: u64) -> Answer {
+    let Lent { table, records, .. } = lent;
+    let (entries, bytes) = (table.as_mut_ptr(), records.as_mut_ptr());
+    // Pointer and length are those of one slice each, borrowed for as long as the call.
+    unsafe { plain_take(entries, table.len(), bytes, records.len(), slot, key, total) }
 }
 
 /// The plain C.
@@ -90,6 +108,15 @@ mod linked {
             part: *const u8,
             part_bytes: usize,
         ) -> Answer;
+        fn halviruso_take(
+            table: *mut Entry,
+            entries: usize,
+            records: *mut u8,
+            record_bytes: usize,
+            slot: u32,
+            key: u32,
+            total: u64,
+        ) -> Answer;
         fn halviruso_close(
             table: *mut Entry,
             entries: usize,
@@ -157,6 +184,12 @@ mod linked {
                     part.len(),
                 )
             }
+        }
+
+        fn take(&mut self, lent: Lent<'_>, slot: u32, key: u32, total: u64) -> Answer {
+            let Lent { table, records, .. } = lent;
+            let (entries, bytes) = (table.as_mut_ptr(), records.as_mut_ptr());
+            unsafe { halviruso_take(entries, table.len(), bytes, records.len(), slot, key, total) }
         }
 
         fn close(&mut self, table: &mut [Entry], stored: &mut u32, slot: u32, key: u32) -> Answer {

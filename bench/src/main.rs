@@ -7,6 +7,7 @@ mod contender;
 mod foreign;
 mod submits;
 mod table;
+mod takes;
 mod workloads;
 mod write;
 
@@ -19,6 +20,7 @@ use contender::{Contender, PEER, PLAIN};
 use peer::replay::Peer;
 use submits::{asking, histories, told, History};
 use table::{figures, ratio, Table};
+use takes::{moving, taking, takings, Taking};
 use workloads::{Unit, Workload, SIZES};
 
 const USAGE: &str = "usage: bench [--markdown] [--quick] [--others] | --write FOLDER";
@@ -84,6 +86,7 @@ fn all_workloads() -> Result<Vec<Workload>, String> {
 
 fn write(folder: &Path) -> Result<(), String> {
     workloads::write(&all_workloads()?, folder)
+        .and_then(|()| takes::write(folder))
         .map_err(|error| format!("{}: {error}", folder.display()))
 }
 
@@ -96,13 +99,17 @@ fn bench(options: &Options) -> Result<(), String> {
     for (_, row) in &growing {
         compared += agree::on_workloads(&contenders, row)?;
     }
-    println!("{compared} parts: all {} contenders say the same\n", contenders.len());
+    println!("{compared} parts: all {} contenders say the same", contenders.len());
+    let takings = takings();
+    let taken = agree::on_generated_takes(&contenders)? + agree::on_takings(&contenders, &takings)?;
+    println!("{taken} takes: they say the same\n");
     let effort = match options.quick {
         true => Effort { rounds: 5, passes: 2 },
         false => Effort { rounds: 40, passes: 5 },
     };
     interpreted(&contenders, &workloads, effort).print(options.markdown);
     requested(&workloads, effort)?.print(options.markdown);
+    taken_from(&contenders, &takings, effort).print(options.markdown);
     linear(&contenders, &growing, effort).print(options.markdown);
     Ok(())
 }
@@ -228,6 +235,43 @@ fn requested(workloads: &[Workload], effort: Effort) -> Result<Table, String> {
         ]);
     }
     Ok(table)
+}
+
+/// Takes from a full area of 4,096 bytes, beside moving the bytes and no more.
+fn taken_from(contenders: &[Contender], takings: &[Taking], effort: Effort) -> Table {
+    let mut table = Table::new(&[
+        "ns per take",
+        "bytes moved",
+        "proved",
+        "per byte moved",
+        "peer",
+        "C",
+        "proved's speed",
+        "memmove",
+    ]);
+    for one in takings {
+        let mut times = Times::new();
+        for _ in 0..effort.passes {
+            let mut runs: Vec<Run<'_>> =
+                contenders.iter().map(|contender| taking(contender.take, one)).collect();
+            runs.push(moving(one));
+            rounds(&mut runs, effort.rounds, &mut times);
+        }
+        let get = |name| of(contenders, &times, name);
+        let others: Vec<&Vec<f64>> = [get("peer"), get("C")].into_iter().flatten().collect();
+        let moved = one.moved();
+        table.row(vec![
+            one.name.to_string(),
+            moved.to_string(),
+            cell(get("proved"), 1),
+            cell(get("proved").filter(|_| moved > 0), moved),
+            cell(get("peer"), 1),
+            cell(get("C"), 1),
+            ratio(speed(get("proved"), &others)),
+            cell(times.last(), 1),
+        ]);
+    }
+    table
 }
 
 /// Time for one byte at four sizes: level rows are linear cost.

@@ -1,4 +1,4 @@
-//! Requests through the job table: open, submit, close.
+//! Requests through the job table: open, submit, take, close.
 
 use std::hint::black_box;
 
@@ -17,23 +17,27 @@ pub struct History {
     pub parts: Vec<Vec<u8>>,
     /// How often each is sent.
     pub sent: u32,
+    /// Whether the printer takes all that stands there after each part.
+    pub taken: bool,
 }
 
 impl History {
-    /// Requests of one run: open, all submits, close.
+    /// Requests of one run: open, all submits and takes, close.
     pub fn requests(&self) -> usize {
-        2 + self.parts.len() * self.sent as usize
+        2 + self.parts.len() * (self.sent as usize + usize::from(self.taken))
     }
 }
 
 /// The histories that are timed.
 pub fn histories(real: &[u8]) -> Vec<History> {
     let line = [&[0x2B, 0xD3, 0x02, 0xD8][..], &[0xC1; 20]].concat();
+    let history = |name, parts, sent, taken| History { name, parts, sent, taken };
     vec![
-        History { name: "a job of 60 short lines", parts: vec![line.clone(); 60], sent: 1 },
-        History { name: "the same, each sent twice", parts: vec![line; 60], sent: 2 },
-        History { name: "a job of one real part", parts: vec![real.to_vec()], sent: 1 },
-        History { name: "a job of 40 empty parts", parts: vec![Vec::new(); 40], sent: 1 },
+        history("a job of 60 short lines", vec![line.clone(); 60], 1, false),
+        history("the same, each sent twice", vec![line.clone(); 60], 2, false),
+        history("the same, each sent once and taken", vec![line; 60], 1, true),
+        history("a job of one real part", vec![real.to_vec()], 1, false),
+        history("a job of 40 empty parts", vec![Vec::new(); 40], 1, false),
     ]
 }
 
@@ -54,10 +58,20 @@ pub fn asking<'a, B: Backend + 'a>(mut hub: B, history: &'a History) -> Run<'a> 
                     let lent = Lent { table: &mut table, records: &mut records, widths: &widths };
                     black_box(hub.submit(lent, slot, key, number, black_box(part)));
                 }
+                if history.taken {
+                    let total = written(&table[slot as usize]);
+                    let lent = Lent { table: &mut table, records: &mut records, widths: &widths };
+                    black_box(hub.take(lent, slot, key, total));
+                }
             }
             black_box(hub.close(&mut table, &mut stored, slot, key));
         }
     })
+}
+
+/// Record bytes that a job has written.
+fn written(entry: &Entry) -> u64 {
+    u64::from(entry.taken) + u64::from(entry.state.used)
 }
 
 /// What a history leaves: all answers, the number of open jobs during it and after it, the table, the records.
@@ -71,6 +85,11 @@ pub fn told<B: Backend>(mut hub: B, history: &History) -> Told {
         for _ in 0..history.sent {
             let lent = Lent { table: &mut table, records: &mut records, widths: &[144; WIDTHS] };
             codes.push(hub.submit(lent, 1, 1, number, part).code);
+        }
+        if history.taken {
+            let total = written(&table[1]);
+            let lent = Lent { table: &mut table, records: &mut records, widths: &[144; WIDTHS] };
+            codes.push(hub.take(lent, 1, 1, total).code);
         }
     }
     codes.push(hub.close(&mut table, &mut stored, 1, 1).code);
