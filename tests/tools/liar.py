@@ -4,8 +4,8 @@ import sys
 from ctypes import sizeof
 
 import paths
-from elements.loaded import Loaded
-from elements.shapes import AREA, Descriptor, Interpreted, State
+from library.loaded import Loaded
+from library.shapes import AREA, Descriptor, Interpreted, State
 
 
 def take(size):

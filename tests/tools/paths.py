@@ -5,7 +5,7 @@ import sys
 HERE = os.path.dirname(os.path.abspath(__file__))
 ROOT = os.path.dirname(os.path.dirname(HERE))
 TOOLS = os.path.join(ROOT, 'tools')
-LIBRARY = os.path.join(ROOT, 'build', 'elements-host')
+LIBRARY = os.path.join(ROOT, 'build', 'library-host')
 RUN = os.environ.get('RUN', '')  # the emulator, where there is one
 STANDIN = os.path.join(HERE, 'standin', 'target', 'release', 'libstandin.so')
 sys.path.insert(0, TOOLS)

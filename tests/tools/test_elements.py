@@ -9,10 +9,10 @@ import unittest
 
 import paths
 from cases import BYTES, LAST, REAL
-from elements.loaded import Loaded
-from elements.served import Served
-from elements.shapes import AREA, Answer, Descriptor, Entry, Interpreted, NoLibrary, State
-from elements.walk import disagreements, walk
+from library.loaded import Loaded
+from library.served import Served
+from library.shapes import AREA, Answer, Descriptor, Entry, Interpreted, NoLibrary, State
+from library.walk import disagreements, steps
 from paths import LIBRARY, RUN, STANDIN
 from ptoca.sheet import INCREMENT, descriptor as sheet_at
 from ptoca.widths import every
@@ -112,7 +112,7 @@ class Disagreeing(unittest.TestCase):
         library = Lying(self.library, part, change)
         _, start = library.opened(descriptor)
         whole, end = library.interpret(part, every(), whole_area, descriptor, start)
-        return disagreements(walk(library, part, every(), area, descriptor, start), start, (area, whole_area), whole, end)
+        return disagreements(list(steps(library, part, every(), area, descriptor, start)), start, (area, whole_area), whole, end)
 
     def test_the_truth_is_no_disagreement(self):
         self.assertEqual(self.told(BYTES['example'], lambda answer, after, area: None), [])
@@ -161,7 +161,7 @@ class Disagreeing(unittest.TestCase):
 class Pieces(unittest.TestCase):
     def test_layouts_are_those_of_the_header(self):
         from ctypes import sizeof
-        self.assertEqual([sizeof(kind) for kind in (Descriptor, State, Entry, Answer, Interpreted)], [48, 48, 108, 12, 60])
+        self.assertEqual([sizeof(kind) for kind in (Descriptor, State, Entry, Answer, Interpreted)], [48, 48, 112, 12, 60])
 
     def test_a_missing_library_is_an_error(self):
         self.assertRaises(NoLibrary, Loaded, os.path.join(paths.HERE, 'none.so'))

@@ -5,8 +5,8 @@ from unittest import mock
 
 import paths
 from cases import BYTES
-from elements import served
-from elements.shapes import NoLibrary
+from library import served
+from library.shapes import NoLibrary
 from faults import Faults
 
 LONG = (8193, 65536, 65537, 1000000)  # bytes of parts that are too long
@@ -92,7 +92,7 @@ class Libraries(Elements):
         self.assert_fault('wrong: the library answers an open with 4294967295', 'ok', '--library', 'wrong')
 
     def test_a_host_that_does_not_answer(self):
-        with mock.patch('elements.served.PATIENCE', 0.1):
+        with mock.patch('library.served.PATIENCE', 0.1):
             host = served.Served(['sleep', '100'])
             self.assertRaisesRegex(NoLibrary, '^100: no answer within 0.1 seconds$', host.opened, b'')
 

@@ -36,6 +36,13 @@ class Reading(unittest.TestCase):
         self.assertEqual((first.key, first.open, second.open), (17, 1, 0))
         self.assertEqual((first.end['margin'], first.end['next'], first.descriptor['hidden']), (720, 3, 5))
 
+    def test_a_job_tells_what_was_taken_or_is_of_an_edition_without(self):
+        line = paths.listing('job').splitlines()[4]
+        self.assertEqual([of(f'{row}\nEND\n')[0].end['taken'] for row in (line, f'{line} 7580')], [0, 7580])
+        self.assertEqual(of(f'{line} 7580\nEND\n')[0].end['used'], 51)
+        for wrong in (line.rsplit(' ', 1)[0], f'{line} 7580 1', f'{line} 4294967296', f'{line} -1'):
+            self.assertRaises(Wrong, of, f'{wrong}\nEND\n')
+
     def test_what_is_no_listing_is_refused(self):
         for wrong in ('PART 1\n', 'PART x\nEND 0 0 0 0\n', 'PART 1\nT 1 2\nEND 0 0 0 0\n', 'PART 1\nR 1 2 0 0 1\nEND 0 0 0 0\n', 'JOB 1 2\nEND\n', 'PART 1\nPART 1\n'):
             self.assertRaises(Wrong, of, wrong)

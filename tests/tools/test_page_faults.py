@@ -147,7 +147,7 @@ class Listings(Page):
 
     def test_a_wrong_count(self):
         self.assert_line('line 1: 0 numbers where 1 belong', b'PART\nEND 0 0 0 0\n')
-        self.assert_line('line 1: 1 number where 27 belong', b'JOB 1\nEND\n')
+        self.assert_line('line 1: 1 number where 28 belong', b'JOB 1\nEND\n')
         self.assert_line('line 2: 0 numbers where 6 belong', b'PART 1\nT\nEND 0 0 0 0\n')
 
     def test_a_line_out_of_its_place(self):

@@ -35,7 +35,12 @@ class Captions(unittest.TestCase):
         self.assertEqual(texts(drawn('example'), 'facts'), ['12 bytes, 3 elements, 18 record bytes, ends at I 1,008, B 480'])
 
     def test_the_numbers_of_a_job(self):
-        self.assertEqual(texts(drawn('job'), 'facts'), ['open, 2 parts taken, 51 record bytes, ends at I 1,924, B 720'])
+        self.assertEqual(texts(drawn('job'), 'facts'), ['open, 2 parts placed, 51 record bytes, ends at I 1,924, B 720'])
+
+    def test_what_the_printer_took_is_told(self):
+        self.assertEqual(texts(job(next=3, used=34, taken=0), 'facts'), ['open, 2 parts placed, 34 record bytes, ends at I 0, B 0'])
+        said = 'open, 2 parts placed, 7,580 record bytes taken by the printer, 34 in the area, ends at I 0, B 0'
+        self.assertEqual(' '.join(texts(job(A_TEXT, next=3, used=34, taken=7580), 'facts')), said)
 
     def fine(self, tree):
         """The first row in fine print."""
@@ -76,16 +81,18 @@ class Empty(unittest.TestCase):
         self.assert_note('None of the 1,200 elements leaves a record.' + tail, part(7000, 1200))
 
     def test_jobs(self):
-        self.assert_note('The job has taken no part yet.', job())
-        self.assert_note('The job was closed before it took a part.', job(open=0))
+        self.assert_note('No part of the job is placed yet.', job())
+        self.assert_note('The job was closed before a part was placed.', job(open=0))
         self.assert_note('No part of the job has left a record.', job(next=3))
         self.assert_note('No whole record stands at the start of the 7 record bytes.', job(next=3, used=7))
         self.assert_note('No job has been opened here yet.', job(open=0, key=0))
+        self.assert_note('The printer has taken all that the job placed, 51 record bytes.', job(next=3, taken=51))
+        self.assert_note('', job(A_TEXT, next=3, taken=51))
 
     def test_a_small_sheet_has_it_in_the_caption(self):
         tree = job(size_i=300, size_b=300)
         self.assert_note('', tree)
-        self.assertIn('The job has taken no part yet.', texts(group(tree, 'caption'), 'facts'))
+        self.assertIn('No part of the job is placed yet.', texts(group(tree, 'caption'), 'facts'))
 
     def test_the_end_mark_is_not_written_over(self):
         for height in (2500, 15840):
@@ -127,7 +134,7 @@ class OutOfRange(unittest.TestCase):
 
     def test_nothing_is_said_of_what_is_in_range(self):
         self.assertEqual(self.warned(), '')
-        self.assertEqual(self.warned(size_i=32767, size_b=1, i=-32768, next=65536, used=4096, space=4095, colour=0), '')
+        self.assertEqual(self.warned(size_i=32767, size_b=1, i=-32768, next=65536, used=4096, space=4095, colour=0, taken=GREATEST), '')
 
     def test_a_size_is_drawn_as_far_as_there_are_sizes(self):
         tree = job(size_i=GREATEST, size_b=GREATEST)

@@ -2,9 +2,9 @@
 import unittest
 
 import paths
-from elements.loaded import Loaded
-from elements.served import Served
-from elements.shapes import AREA, Descriptor
+from library.loaded import Loaded
+from library.served import Served
+from library.shapes import AREA, Descriptor
 from ptoca.cutting import element_with
 from ptoca.sequences import SEQUENCES, parameter_at
 from ptoca.sheet import INCREMENT, descriptor as sheet_at

@@ -1,10 +1,10 @@
 """The elements in words, one a line; and the bytes around a refusal, the one that it names and its element underlined."""
 from ptoca.letters import letter, line
-from ptoca.refusals import PLACED, reason
-from ptoca.sequences import RULE, parameter_at, sequence_of, split
+from ptoca.refusals import reason
+from ptoca.sequences import RULE, sequence_of, split
 from ptoca.words import plural
 
-from elements.shapes import ABSENT
+from library.shapes import ABSENT
 
 SHOWN = 40   # characters of a text that are printed
 ROW = 16     # bytes to a line of the dump
@@ -76,13 +76,6 @@ def effect(step):
     records = [record(raw) for raw in apart(step.records)]
     did = records or (['no record'] if presents(step.element) else [])
     return '; '.join(did + changes(step.before, step.after)) or 'nothing changes'
-
-
-def refusal(answer, element=None):
-    """The code, its place if it has one, and its reason; with the element at fault, the parameter that begins at that place."""
-    place = f' at {answer.first}' if answer.code >= PLACED else ''
-    parameter = element and parameter_at(element, answer.first)
-    return f'refused with {answer.code}{place}: {reason(answer.code)}' + (f' ({parameter})' if parameter else '')
 
 
 def row(step, code_page):

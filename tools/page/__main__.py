@@ -1,6 +1,6 @@
 """python3 tools/page [LISTING] [--increment N] [--part FILE] [--widths FILE] [--codepage 500|1252] [--sheet N] [--output FILE]
 
-Draws a listing, or a job that replay showed, as SVG. Without LISTING it reads standard input. `--increment` is the one that the listing
+Draws a listing, or a job that replay or examples/drain.c showed, as SVG. Without LISTING it reads standard input. `--increment` is the one that the listing
 was made at: it goes into the caption, for the listing doesn't tell it; a job does. `--part` is the part itself: its name goes
 into the caption, and a refusal is marked on its bytes. `--sheet` chooses among several sheets in one text.
 Exit status 0: drawn. 2: it can't be done; one line on standard error says why, and an earlier file stays as it was."""

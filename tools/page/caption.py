@@ -15,11 +15,18 @@ def size_of(shown, part):
     return plural(shown.part, 'byte') if shown.part <= LONGEST else f'more than {LONGEST:,} bytes'
 
 
-def taken(shown):
-    """Whether the job is open, and how many parts it took."""
+def parts_placed(shown):
+    """Whether the job is open, and how many parts of it are placed."""
     number = shown.end['next']
-    parts = f'{plural(number - 1, "part")} taken' if fits('next', number) else f'next part {number:,}'
+    parts = f'{plural(number - 1, "part")} placed' if fits('next', number) else f'next part {number:,}'
     return f'{"open" if shown.open else "closed"}, {parts}'
+
+
+def record_bytes(end):
+    """What stands in the job's area, and what the printer took out of it."""
+    if end['taken'] == 0:
+        return plural(end['used'], 'record byte')
+    return f'{plural(end["taken"], "record byte")} taken by the printer, {end["used"]:,} in the area'
 
 
 def facts(shown, part):
@@ -30,7 +37,7 @@ def facts(shown, part):
     place = f'ends at I {end["i"]:,}, B {end["b"]:,}'
     if shown.part is not None:
         return ', '.join([size_of(shown, part), plural(end['elements'], 'element'), plural(end['added'], 'record byte'), place])
-    return ', '.join([taken(shown), plural(end['used'], 'record byte'), place])
+    return ', '.join([parts_placed(shown), record_bytes(end), place])
 
 
 def increment(shown):

@@ -16,8 +16,10 @@ def of_job(shown):
         return 'No job has been opened here yet.'
     if end['used'] > 0:
         return f'No whole record stands at the start of the {plural(end["used"], "record byte")}.'
+    if end['taken'] > 0:
+        return f'The printer has taken all that the job placed, {plural(end["taken"], "record byte")}.'
     if end['next'] == 1:
-        return 'The job has taken no part yet.' if shown.open else 'The job was closed before it took a part.'
+        return 'No part of the job is placed yet.' if shown.open else 'The job was closed before a part was placed.'
     return 'No part of the job has left a record.'
 
 

@@ -1,10 +1,11 @@
-"""Reads what is to be drawn: a listing (PART .. END or REFUSED), or a job shown by replay (JOB .. END)."""
+"""Reads what is to be drawn: a listing (PART .. END or REFUSED), or a job shown by replay or by examples/drain.c (JOB .. END)."""
 from dataclasses import dataclass, field
 
 from ptoca.sheet import FIELDS, descriptor as sheet_at
 from ptoca.words import Wrong, number, plural, quoted
 
-STATE = ('i', 'b', 'margin', 'increment', 'adjustment', 'direction', 'font', 'colour', 'space', 'suppression', 'chain', 'next', 'used')
+STATE = ('i', 'b', 'margin', 'increment', 'adjustment', 'direction', 'font', 'colour', 'space', 'suppression', 'chain', 'next', 'used',
+         'taken')
 LONGEST = 8192  # bytes of a part; of a longer one the listing program reads one more
 # what each line holds: a record's numbers have 16 bits, an entry's 32, whatever stands in them
 SHORT, SIGNED, LONG, POSITION = (0, 65535), (-32768, 32767), (0, 2**32 - 1), (-32768, 2**32 - 1 - 32768)
@@ -65,6 +66,8 @@ def characters(word):
 
 def job(words):
     """The JOB line has the entry's numbers, in the order of replay's `set`."""
+    if len(words) == len(JOB) - 1:
+        words = [*words, '0']  # before there were takes, nothing was taken
     values = numbers(words, JOB)
     descriptor = dict(zip(FIELDS, values[2:]))
     end = dict(zip(STATE, values[2 + len(FIELDS):]))

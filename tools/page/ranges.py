@@ -6,7 +6,7 @@ SPANS = {
     'size_i': (1, EXTENT), 'size_b': (1, EXTENT), 'initial_i': (0, EXTENT), 'initial_b': (0, EXTENT), 'margin': (0, EXTENT),
     'increment': (0, EXTENT), 'adjustment': (0, 4095), 'direction': (0, 1), 'font': (0, 3), 'rule': (0, 192), 'hidden': (0, 127),
     'i': (-32768, 32767), 'b': (-32768, 32767), 'space': (0, 4095), 'suppression': (0, 127), 'chain': (0, 1),
-    'open mark': (0, 1), 'next': (1, 65536), 'used': (0, 4096),
+    'open mark': (0, 1), 'next': (1, 65536), 'used': (0, 4096), 'taken': (0, 2**32 - 1),
 }
 COLOURS = (0x0000, 0xFF00, 0xFF07)
 WORDS = {

@@ -1,5 +1,7 @@
 """The codes that one part can be refused with, in words."""
+from ptoca.sequences import parameter_at
 
+LONG, NO_ROOM = 19, 29  # what cutting helps against
 PLACED = 20             # codes from here on name a byte of the part
 WITHIN = range(21, 26)  # these name a byte within the element at fault, the others its first one
 REASONS = {
@@ -22,3 +24,10 @@ REASONS = {
 
 def reason(code):
     return REASONS.get(code, 'a code that no part can get')
+
+
+def refusal(code, offset, element=None):
+    """The code, its place if it has one, and its reason; with the element at fault, the parameter that begins at that place."""
+    place = f' at {offset}' if code >= PLACED else ''
+    parameter = element and parameter_at(element, offset)
+    return f'refused with {code}{place}: {reason(code)}' + (f' ({parameter})' if parameter else '')

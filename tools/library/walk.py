@@ -14,17 +14,15 @@ class Step:
     records: bytes
 
 
-def walk(library, part, widths, area, descriptor, state):
-    """The steps up to the first refusal, which is the last step."""
-    steps, at = [], 0
+def steps(library, part, widths, area, descriptor, state, at=0):
+    """The elements from `at` on, each with what the library answers; a refusal is the last step."""
     while at < len(part):
         element = element_at(part, at, state.chain)
         answer, after = library.interpret(element.raw, widths, area, descriptor, state)
-        steps.append(Step(element, state, after, answer, bytes(area[state.used:after.used])))
+        yield Step(element, state, after, answer, bytes(area[state.used:after.used]))
         if answer.code != 0:
-            break
+            return
         at, state = element.end(), after
-    return steps
 
 
 def misfits(step, whole):
@@ -36,17 +34,23 @@ def misfits(step, whole):
     return [] if here[1] < element.end() else [f'{here[0]} at {here[1]}, outside the element, {element.place()}']
 
 
-def disagreements(steps, start, areas, whole, end):
+def disagreements(walked, start, areas, whole, end):
     """Where the elements one by one and the part as a whole differ: count, record bytes, end state, or the refusal."""
-    if steps and steps[-1].answer.code != 0:
-        return misfits(steps[-1], whole)
-    last = steps[-1].after if steps else start
+    if walked and walked[-1].answer.code != 0:
+        return misfits(walked[-1], whole)
+    last = walked[-1].after if walked else start
     told = {
         'code': (0, whole.code),
-        'elements': (sum(step.answer.first for step in steps), whole.first),
-        'steps': (len(steps), whole.first),
-        'record bytes': (sum(step.answer.second for step in steps), whole.second),
+        'elements': (sum(step.answer.first for step in walked), whole.first),
+        'steps': (len(walked), whole.first),
+        'record bytes': (sum(step.answer.second for step in walked), whole.second),
         'end': (last.values(), end.values()),
         'area': tuple(area.hex() for area in areas),
     }
     return [f'{name}: element by element {here}, as a whole {there}' for name, (here, there) in told.items() if here != there]
+
+
+def protest(differences):
+    """What a tool says, and ends with status 1, where there are any."""
+    told = 'THE LIBRARY DISAGREES WITH ITSELF: its answers to the part as a whole and element by element do not fit together'
+    return [told, *(f'  {difference}' for difference in differences)]

@@ -6,7 +6,7 @@ import subprocess
 from contextlib import suppress
 from ctypes import sizeof
 
-from elements.shapes import AREA, Interpreted, NoLibrary
+from library.shapes import AREA, Interpreted, NoLibrary
 
 PATIENCE = 20  # seconds for one answer, which takes far less than one
 

@@ -2,7 +2,7 @@
 import ctypes
 from ctypes import POINTER, byref, c_size_t, c_uint8, c_uint16, c_uint32
 
-from elements.shapes import SLOTS, Answer, Descriptor, Entry, Interpreted, NoLibrary, State
+from library.shapes import SLOTS, Answer, Descriptor, Entry, Interpreted, NoLibrary, State
 
 
 class Loaded:

@@ -1,5 +1,5 @@
 /*
- * The library behind two pipes, for tools/elements: the library is compiled for x86-64, and Python may not be.
+ * The library behind two pipes, for tools/elements and tools/cut: the library is compiled for x86-64, and Python may not be.
  *
  * Requests on standard input, answers on standard output, every number little-endian as it stands in memory:
  *   'o' descriptor                               -> halviruso_interpreted: the answer to an open, and the state of the job

@@ -28,9 +28,15 @@ class State(Structure):
         values = {name: getattr(self, name) for name, _ in self._fields_}
         return {**values, 'i': self.i - ORIGIN, 'b': self.b - ORIGIN}
 
+    def drained(self):
+        """The same beside an area whose records were all taken."""
+        other = State.from_buffer_copy(self)
+        other.used = 0
+        return other
+
 
 class Entry(Structure):
-    _fields_ = [*numbers('key', 'mark'), ('descriptor', Descriptor), ('state', State), *numbers('next')]
+    _fields_ = [*numbers('key', 'mark'), ('descriptor', Descriptor), ('state', State), *numbers('next', 'taken')]
 
 
 class Answer(Structure):
