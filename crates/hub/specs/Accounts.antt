@@ -1,4 +1,4 @@
--- The hub as a tenant sees it: a slot's account, which is what the answers alone have told of it, and the answer that it tells to the next request.
+-- The hub as a tenant sees it: a slot's account, which is what the answers have told of it and what its printer has read, and the answer that it tells to the next request.
 use Prim.Native.Nat.{ℕ, _+_, _-_}
 use mathlib.Core.Bool.{Bool, true, false, not, _&&_}
 use mathlib.Core.List.{List, [], _∷_, _++_, map}

@@ -43,6 +43,7 @@ maySubmit key number e = do
   require (isOpenUnder e key) 16
   judged (e .next) number
 
+-- one of some numbers
 abbrev pub isOneOf : ℕ → List ℕ → Bool
 isOneOf n [] = false
 isOneOf n (m ∷ ms) = eqb n m || isOneOf n ms
@@ -113,6 +114,7 @@ taking key total area e = decided e (mayTake key total area e) (out (drained e t
 abbrev pub movedDown : List ℕ → ℕ → ℕ → List ℕ
 movedDown area first past = spliced area 0 (between area first past)
 
+-- and what it makes of the area
 unfoldable pub areaLeft : ℕ → ℕ → List ℕ → Entry → List ℕ
 areaLeft key total area e = if passes (mayTake key total area e) then movedDown area (total - e .taken) (e .state .used) else area
 
