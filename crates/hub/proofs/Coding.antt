@@ -2,22 +2,19 @@
 -- Assumes nothing.
 use Prim.Native.Nat.{ℕ, zero, suc, _-_, _≤_}
 use mathlib.Core.Path.{_≡_, refl, sym, ap}
-use mathlib.Core.Bool.{Bool, true, false}
-use mathlib.Core.List.{List}
+use mathlib.Core.List.{List, []}
 use lib.ListN.{length}
 use native.Mathlib.Omega.{arith}
 use borrow.Author.Tests.{ltb-true, leb-true}
 use Rattle.part.specs.Numbers.{if_then_else_}
 use Rattle.part.specs.Checks.{Checked, fine}
-use Rattle.part.specs.Part.{areaAfter}
-use Rattle.part.proofs.Areas.{area-length}
 use Rattle.part.proofs.Checks.{value-of}
 use Rattle.hub.specs.Entries.{allWritten}
-use Rattle.hub.specs.Requests.{out, refusal, decided, passes, maySubmit, areaFilled, mayTake, movedDown, areaLeft}
+use Rattle.hub.specs.Requests.{out, refusal, decided, passes, maySubmit, areaFilled, mayTake, areaLeft, Submit, Take}
 use Rattle.hub.specs.Code.{coded}
 use Rattle.hub.specs.declared.jobs.Entry.{Entry}
 use Rattle.hub.specs.declared.jobs.Out.{Out}
-use Rattle.hub.proofs.Bytes.{moved-length}
+use Rattle.hub.proofs.Reaching.{then-length}
 use Rattle.hub.proofs.Deciding.{submit-tests, take-tests}
 use Rattle.hub.proofs.Ranging.{used-low}
 use Rattle.hub.proofs.Holding.{awaits}
@@ -33,22 +30,12 @@ stopped-same was other (suc n) m is h = rw (sym is)
 
 -- an area keeps its length
 pub filled-length : (widths area : List ℕ) (key number : ℕ) (part : List ℕ) (e : Entry) → length (areaFilled widths key number part area e) ≡ length area
-unfolding areaFilled
-filled-length widths area key number part e = go (passes (maySubmit key number e))
-  where
-    go : (t : Bool) → length (if t then areaAfter widths (e .descriptor) (e .state) part area else area) ≡ length area
-    go true = area-length widths (e .descriptor) (e .state) part area
-    go false = refl
+filled-length widths area key number part e = then-length widths (Submit 0 key number part) e area
 
 pub left-length : (key total : ℕ) (area : List ℕ) (e : Entry) → length (areaLeft key total area e) ≡ length area
-unfolding areaLeft
-left-length key total area e = go (passes (mayTake key total area e))
-  where
-    go : (t : Bool) → length (if t then movedDown area (total - e .taken) (e .state .used) else area) ≡ length area
-    go true = moved-length area (total - e .taken) (e .state .used)
-    go false = refl
+left-length key total area e = then-length [] (Take 0 key total) e area
 
--- a part that may be taken has a number that can grow
+-- a part that may be placed has a number that can grow
 pub next-low : (key number : ℕ) (e : Entry) → maySubmit key number e ≡ fine tt → e .next ≤ 65535
 next-low key number e is =
     let t = awaits key number e (value-of (maySubmit key number e) (submit-tests key number e) is) in

@@ -8,11 +8,10 @@ use lib.ListN.{length, set, length-set}
 use lib.Seq.{getD-set-other, set-getD}
 use lib.Dec.{ltb}
 use Rattle.part.specs.Numbers.{if_then_else_}
-use Rattle.part.specs.Part.{areaAfter}
 use Rattle.part.specs.declared.shapes.Answer.{Answer}
 use Rattle.part.proofs.Areas.{area-length}
 use Rattle.hub.specs.Entries.{fresh}
-use Rattle.hub.specs.Requests.{maySubmit, mayTake, passes, opening, closing, submitting, areaFilled, taking, movedDown, areaLeft, areaOf, withArea, refusal, Hub, hub, Request, Open, Submit, Take, Close, slotOf, Reply, isLent, onEntry, onRecords, onStored, elseOf, step, steps}
+use Rattle.hub.specs.Requests.{maySubmit, mayTake, passes, opening, closing, submitting, areaFilled, taking, areaLeft, areaOf, withArea, refusal, Hub, hub, Request, Open, Submit, Take, Close, slotOf, Reply, isLent, onEntry, onRecords, onStored, elseOf, step, steps}
 use Rattle.hub.specs.Histories.{entryOf}
 use Rattle.hub.specs.declared.jobs.Entry.{Entry}
 use Rattle.hub.specs.declared.jobs.Out.{Out}
@@ -54,6 +53,11 @@ chosen : (t u : Bool) (h : Hub) (slot : ℕ) (o : Out) (records area : List ℕ)
 chosen true true h slot o records area stored e = rw e
 chosen true false h slot o records area stored e = rw (put-same h slot stored)
 chosen false u h slot o records area stored e = rw (put-same h slot stored)
+
+-- one of two areas of the same length
+either-length : (t : Bool) (other area : List ℕ) → length other ≡ length area → length (if t then other else area) ≡ length area
+either-length true other area same = same
+either-length false other area same = refl
 
 module _ (widths : List ℕ) where
   abbrev pub outThen : Request → Entry → List ℕ → ℕ → Out
@@ -101,19 +105,11 @@ module _ (widths : List ℕ) where
 
   -- ---- an area keeps its length
 
-  then-length : (r : Request) (e : Entry) (area : List ℕ) → length (areaThen r e area) ≡ length area
+  pub then-length : (r : Request) (e : Entry) (area : List ℕ) → length (areaThen r e area) ≡ length area
   unfolding areaFilled areaLeft
   then-length (Open slot key d) e area = refl
-  then-length (Submit slot key number part) e area = go (passes (maySubmit key number e))
-    where
-      go : (t : Bool) → length (if t then areaAfter widths (e .descriptor) (e .state) part area else area) ≡ length area
-      go true = area-length widths (e .descriptor) (e .state) part area
-      go false = refl
-  then-length (Take slot key total) e area = go (passes (mayTake key total area e))
-    where
-      go : (t : Bool) → length (if t then movedDown area (total - e .taken) (e .state .used) else area) ≡ length area
-      go true = moved-length area (total - e .taken) (e .state .used)
-      go false = refl
+  then-length (Submit slot key number part) e area = either-length (passes (maySubmit key number e)) _ area (area-length widths (e .descriptor) (e .state) part area)
+  then-length (Take slot key total) e area = either-length (passes (mayTake key total area e)) _ area (moved-length area (total - e .taken) (e .state .used))
   then-length (Close slot key) e area = refl
 
   pub fits : (h : Hub) (r : Request) → Fits (h .records) (slotOf r) (seen h r .area)
