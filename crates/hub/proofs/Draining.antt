@@ -1,7 +1,7 @@
 -- A job that is kept by the rules is so when records are taken out of its area: a place between two of them parts them, and those in front of it are read.
 -- Assumes nothing.
 use Prim.Native.Nat.{ℕ, _+_, _-_, _≤_, _<_}
-use mathlib.Core.Path.{_≡_, refl, sym, _∙_, ap}
+use mathlib.Core.Path.{_≡_, sym, _∙_, ap}
 use mathlib.Core.Bool.{true}
 use mathlib.Core.List.{List, _++_, append-assoc}
 use native.Mathlib.Omega.{arith}
@@ -10,8 +10,6 @@ use lib.Seq.{take-add, take-at, drop-at, length-take-le}
 use Rattle.part.specs.Reading.{between}
 use Rattle.part.specs.Records.{Item, allBytes, boundaries}
 use Rattle.part.specs.States.{withUsed}
-use Rattle.part.specs.Place.{Effect}
-use Rattle.part.proofs.Checks.{same-value}
 use Rattle.part.proofs.Parts.{allBytes-join}
 use Rattle.hub.specs.Entries.{entry, allWritten, drained}
 use Rattle.hub.specs.Requests.{isOneOf, movedDown}

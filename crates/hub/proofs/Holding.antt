@@ -5,7 +5,7 @@ use mathlib.Core.Path.{_≡_, refl, _∙_, ap}
 use mathlib.Core.Bool.{Bool, true, false, _&&_}
 use mathlib.Core.List.{List, [], _∷_}
 use native.Mathlib.Omega.{arith}
-use lib.ListN.{length, getD, replicate, take}
+use lib.ListN.{getD, replicate}
 use lib.Dec.{leb, eqb}
 use borrow.Author.Tests.{ltb-true, leb-true, eqb-true, eqb-false}
 use Rattle.part.specs.Numbers.{if_then_else_}
@@ -17,9 +17,9 @@ use Rattle.part.proofs.Areas.{spliced-length}
 use Rattle.part.proofs.Accepting.{accepted}
 use Rattle.hub.specs.Entries.{isOpen, isOpenUnder, damaged, firstState, closed, allWritten, fresh, freshTable}
 use Rattle.hub.specs.Requests.{opening, closing, submitting, areaFilled, taking, movedDown, areaLeft, areaOf, Hub, hub, Request, Open, Submit, Take, Close, slotOf, step, steps}
-use Rattle.hub.specs.Accounts.{Job, Account, unused, running, ended, withTaken, noted, partsFrom}
+use Rattle.hub.specs.Accounts.{Account, unused, running, ended, noted, partsFrom}
 use Rattle.hub.specs.Histories.{entryOf, printed, account}
-use Rattle.hub.specs.Promises.{Agrees, ReadInAll, ReadOf, Fresh, Holds, Reads}
+use Rattle.hub.specs.Promises.{Agrees, ReadOf, Fresh, Holds, Reads}
 use Rattle.hub.specs.declared.jobs.Entry.{Entry}
 use Rattle.hub.proofs.Bytes.{moved-length}
 use Rattle.hub.proofs.Slots.{own-length, with-own}

@@ -4,7 +4,7 @@ use Prim.Native.Nat.{ℕ, _-_}
 use mathlib.Core.Path.{_≡_, refl, sym}
 use mathlib.Core.List.{List}
 use native.Mathlib.Omega.{arith}
-use lib.ListN.{getD, take, drop, length-take}
+use lib.ListN.{getD, drop, length-take}
 use lib.Dec.{leb}
 use borrow.Author.Tests.{ltb-true, leb-true, eqb-false}
 use Rattle.part.specs.Reading.{between}

@@ -1,11 +1,11 @@
 -- Bytes moved down in an area, some after the others: those that are still to be read were not stored over.
 -- Assumes nothing.
-use Prim.Native.Nat.{ℕ, zero, suc, _+_, _-_, _≤_, _<_}
+use Prim.Native.Nat.{ℕ, suc, _+_, _-_, _≤_, _<_}
 use mathlib.Core.Path.{_≡_, refl, sym, _∙_, ap}
 use mathlib.Core.List.{List, [], _∷_, _++_, append-nil}
 use native.Mathlib.Omega.{arith}
 use lib.ListN.{length, getD, take, drop, set, length-drop, length-take, drop-of-length-le}
-use lib.Seq.{sets, sets-eq, length-sets, drop-set-lt, drop-drop, getD-drop}
+use lib.Seq.{sets, sets-eq, drop-set-lt, drop-drop, getD-drop}
 use Rattle.part.specs.Reading.{between}
 use Rattle.part.proofs.Stores.{one-more, some-more}
 use Rattle.hub.specs.Requests.{movedDown}

@@ -1,5 +1,5 @@
 -- "What the promises have to say": the promises over the rules of `Requests`, each as one type.
--- Their proofs: Answering, Leaving, Storing, Swapping, Telling, Holding, Draining, Printing, Repeating.
+-- Their proofs: Answering, Leaving, Storing, Swapping, Telling, Holding, Printing, Repeating.
 use Prim.Native.Nat.{ℕ, zero, suc, _+_, _*_, _≤_, _<_}
 use mathlib.Core.Path.{_≡_}
 use mathlib.Core.Bool.{Bool, true, false, _&&_, _||_}

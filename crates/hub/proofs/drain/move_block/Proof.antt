@@ -1,6 +1,6 @@
 -- `hub::drain::move_block` meets its contract. The invariants: the first k bytes are read, and the first j of them are stored.
 -- Assumes nothing.
-use Prim.Native.Nat.{_+_, _-_, _≤_}
+use Prim.Native.Nat.{_-_, _≤_}
 use Rattle.hub.proofs.Moving.{all-set}
 use Rattle.part.proofs.Stores.{one-more}
 use borrow.Author.Needs.{needs}
