@@ -142,7 +142,7 @@ w('use %s.Entries.{fresh}\nuse %s.Requests.{%s}' % (S, S, ', '.join(['Request', 
 for t, a in [(T, 'E'), ('Answer', 'R'), ('Out', 'O')] + [(t, t) for t in structs]: w('use %s as %s\nuse %s.Laws as %s′' % (proved(t), a, proved(t), a))
 w('use %s.Left.{Post, ends, meets, gives-up, gives-up-one, trues, silent}' % Pk)
 w('use %s.Steps.{free-at}' % Pk)
-w('use %s.Thin.{Size, sized, sized-right, within-table, in-slots, answer-val, Is-answer, way-is, IsReply, refused-step, taken-step, tests-request, reads-record, stores-record, calls-record, %s}' % (Pk, 'with-record-given' if needs else 'with-record'))
+w('use %s.Thin.{Size, sized, sized-right, within-table, in-slots, answer-val, Is-answer, way-is, IsReply, refused-step, taken-step, kept-step, tests-request, reads-record, stores-record, calls-record, %s}' % (Pk, 'with-record-given' if needs else 'with-record'))
 w('use {P}.{m}.{c} as callee\nuse {P}.{m}.{c}.Symbol as callee-def\nuse {P}.{m}.{c}.Symbol.{{name as #callee}}\nuse {P}.{m}.{c}.Met as callee-thm\nuse {P}.table.{f}.Key.{{name as #self}}\nuse {P}.table.{f} as self\nuse {P}.table.{f}.Statement as stated\nuse {P}.table.{f}.Code as code'.format(P=Pk, m=module, c=callee, f=fn))
 w('''
 -- the contract that the proof cites
@@ -262,7 +262,7 @@ line('by ! (exits r ys %s (%srefused-step %s way) (way-is way) refl)) (λ both.'
 # the record is read
 line(X.move(*tail, 1, ks, ka, kn, kp, ke))
 inside = 'within-table 1 ys others x-slot both'
-lead = '𝓤 H A W κ q b o γ ys x-slot room (%s) (named 0) %s C Λ _ 1 %d %d refl refl refl End _' % (inside, ' '.join(map(l, (0, 1, ks, ka, kn, kp, kq, ke, ko))), ka, kn)
+lead = '𝓤 H A W κ q b o γ ys x-slot room (%s) (named 0) %s C Λ _ 1 %d %d refl refl refl End _' % (inside, ' '.join(map(l, (0, 1, ks, ka, kn, kb, kp, kq, ke, ko))), ka, kn)
 line('reads-record %s %d %d %d refl refl refl _ (λ is.' % (lead, ks, kp, ke))
 # what is lent on
 for p in muts:
@@ -283,12 +283,17 @@ X.swap(['pre'], ['tk', 'last'])
 said = ['said' + ' .1' * j + (' .0' if j < len(muts) else '') for j in range(len(muts) + 1)]
 z = X.at(ko)
 line('land ! (from ! (stop !)) (init ! %d refl (LL.lawful O.the-type O′.the-laws 𝓤 H A W .typed d _ isr .0)) $ rewrite ! %d (λ (u : Val). ‵ (fat fullShare O′.mir %s 0 u)) tells refl $' % (z, z, l(ko)))
-line(X.move(*tail, 1, ka, kn, 0, kq, ko))
-line('stores-record %s %d %d refl refl refl d w isr (λ is-answer.' % (lead, kq, ko))
-for x in X.frees({kb, kp}): line(x)
+line(X.move(*tail, 1, ka, kn, 0, kq, ko, kb))
 def told(n): return said[1 + muts.index(by[n])] if n in by and by[n].mut else 'refl'
 left = [after(n, 'us .1') for n in HUB] + ['(%s)' % x if ' ' in x else x for x in [said[0], *map(told, HUB)]]
-line('keep ! (%s) $ by ! (exits (d .answer) (set ys x-slot (d .entry)) (us .1) (%staken-step %s both d %s) is-answer (length-set ys x-slot (d .entry))' % (' ∷ '.join(str(X.at(x)) for x in ('obs', 'lft', 'tk', 'last')) + ' ∷ []', any_, stepped, ' '.join(left)))
+def ended(Y, rooms, law, zs, same): # the locals are freed, and the contract is met with the table at zs
+    for x in Y.frees({kb, kp} | rooms): line(x)
+    line('keep ! (%s) $ by ! (exits (d .answer) %s (us .1) (%s%s) is-answer %s)' % (' ∷ '.join(str(Y.at(x)) for x in ('obs', 'lft', 'tk', 'last')) + ' ∷ []', zs, any_, law, same))
+step_of = '%s both d %s' % (stepped, ' '.join(left))
+line('stores-record %s %d %d %d refl refl refl refl d w isr (λ is-answer other.' % (lead, kb, kq, ko))
+ended(copy.deepcopy(X), {kn, kq}, 'kept-step %s other' % step_of, 'ys', 'refl')
+out[-1] += ') (λ is-answer.'
+ended(X, set(), 'taken-step %s' % step_of, '(set ys x-slot (d .entry))', '(length-set ys x-slot (d .entry))')
 out[-1] += ')' * sum(x.count('(') - x.count(')') for x in out[begin:])
 w(spec(fn, module, callee, ['slice-vals'] + [spells(p) for p in rest], ['mut-slice-tells (named 0) (κs .0) E.the-row'] + [tells(p) for p in rest],
     '(κs .0) (κs .1) (qs .0) (qs .1) (a .0 .ptr .0) (a .0 .ptr .1) (a .0 .name) (a .0 .now) %s\n    (are .0 .0 .1) %s (𝓣 .C) (𝓣 .Λ) (fmOf 𝓤 H (W .laws) 𝓣)' % (

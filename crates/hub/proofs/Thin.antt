@@ -4,14 +4,17 @@
 --     if slot > 15 { return NO_SLOT; }
 --     let at = slot as usize;
 --     let o = f(table[at], …);
+--     if o.answer.code != 0 { return o.answer; }
 --     table[at] = o.entry;
 --     o.answer
 -- with f covered, and by value in the record.
 --     sizes, slot-test, load-at, store-at         the MIR of the pieces, as functions of the locals' numbers
 --     tests-request (tests-sizes, the lengths only)        the walk of the tests: a premise for the refusals, and one for what follows
---     reads-record, stores-record      the walk of the load, to the record in its local, and of the store, from the call's result in its local to where the locals are freed.
+--     reads-record      the walk of the load, to the record in its local
+--     stores-record     the walk from the call's result in its local to where the locals are freed: a premise for a refusal, which stores nothing, and one for what is stored
 --     with-record, with-record-given   what a callee asks that takes the record, and one that asks a fact besides.        calls-record, calls-with      the call of one that answers an `Out`, and of any
 --     refused-step, taken-step         the contract: what is answered and left is what the step gives, where the request is refused (`Way`), and where it is not (`Both`)
+--     kept-step         the same where the callee's code isn't 0, with no store
 -- The locals' places in the environment are premises of the form `spotOf E k ≡ (τ, l, 0)`, each a `refl`.
 -- Assumes nothing.
 use mathlib.Core.Path.{_≡_, refl, _∙_, sym, ap, subst}
@@ -52,6 +55,7 @@ use Rattle.hub.specs.declared.jobs.Out.{Out}
 use Rattle.hub.specs.Entries.{fresh}
 use Rattle.hub.specs.Requests.{refusal, atSlot, Hub, hub, Request, slotOf, Reply, isLent, onEntry, onRecords, onStored, step}
 use Rattle.hub.proofs.Cases.{hit, miss}
+use Rattle.hub.proofs.Leaving.{refused-stays}
 use Rattle.hub.proofs.Steps.{guards, at, result, number, constant}
 use Rattle.hub.proofs.jobs.Entry as E
 use Rattle.hub.proofs.jobs.Entry.Laws as E′
@@ -133,6 +137,16 @@ module _ (widths : List ℕ) (h : Hub) (r : Request) where
     counted ∙ reached lent slot table (onStored widths h r) (h .stored) (h .stored) b,
   )
 
+  -- and where its code isn't 0: the step leaves the table, so that nothing has to be stored
+  pub kept-step : Both lent slot → (d : Out) (bytes : List ℕ) (number : ℕ)
+      → d ≡ on (getD table slot fresh) → bytes ≡ onRecords widths h r (getD table slot fresh) → number ≡ onStored widths h r (getD table slot fresh)
+      → T (not (eqb (d .answer .code) 0)) → IsReply (step widths h r) (d .answer) (hub table bytes number)
+  kept-step b d bytes number made stored counted other =
+      let taken = taken-step b d bytes number made stored counted in
+      let not-0 = subst (λ (a : Answer). T (not (eqb (a .code) 0))) (taken .0) other in
+      let same = refused-stays widths h r (λ zero. subst (λ (n : ℕ). T (not (eqb n 0))) zero not-0) in
+      (taken .0, ap (λ (k : Hub). k .table) (sym same), taken .2, taken .3)
+
 -- ---- an answer's machine value, and that a refusal is one
 abbrev pub answer-val : Answer → Val
 answer-val r = LL.val R.the-type R′.the-laws r
@@ -177,11 +191,14 @@ abbrev pub load-at : ℕ → ℕ → ℕ → ℕ → ℕ → ℕ → Body → Bo
 load-at kt ks ka kn kp ke rest =
     seq (assign (place ka []) (op1 (cast unsigned unsigned w64) (copy (place ks [])))) (place-of kt ka kn kp (seq (assign (place ke []) (rvOpd (copy (place kp (deref E′.mir ∷ []))))) rest))
 
-abbrev pub store-at : ℕ → ℕ → ℕ → ℕ → ℕ → Body
-store-at kt ka kn kq ko =
-    place-of kt ka kn kq
-    (seq (assign (place kq (deref E′.mir ∷ [])) (rvOpd (copy (place ko (field 0 ∷ [])))))
-    (seq (assign (place 0 []) (rvOpd (copy (place ko (field 1 ∷ []))))) return))
+abbrev pub give : ℕ → Body
+give ko = seq (assign (place 0 []) (rvOpd (copy (place ko (field 1 ∷ []))))) return
+
+abbrev pub store-at : ℕ → ℕ → ℕ → ℕ → ℕ → ℕ → Body
+store-at kt ka kn kb kq ko =
+    seq (assign (place kb []) (op2 ne (copy (place ko (field 1 ∷ field 0 ∷ []))) (int w32 0)))
+    (seq (cond (copy (place kb [])) (give ko) skip)
+    (place-of kt ka kn kq (seq (assign (place kq (deref E′.mir ∷ [])) (rvOpd (copy (place ko (field 0 ∷ []))))) (give ko))))
 
 -- ---- the tests of the lengths: whether all are right, where ok says it of those before
 abbrev pub sized : Bool → List Size → Bool
@@ -258,7 +275,7 @@ module _ {M : Type 1} (𝓤 : URA M) (H : Heap 𝓤) (A : Atoms 𝓤) (W : Given
 
 -- ---- the record is read, and written
 -- the table at the list zs, between two statements, and its local
-module _ {M : Type 1} (𝓤 : URA M) (H : Heap 𝓤) (A : Atoms 𝓤) (W : Given 𝓤 H A) (κ : Lft) (q : Share) (b o : ℕ) (γ : GName) (ys : List Entry) (i : ℕ) (room : Room E.the-row (length ys)) (within : i < length ys) (ℓ : Lifetime) (l₀ lt′ ls la ln lp lq le lo : ℕ) where
+module _ {M : Type 1} (𝓤 : URA M) (H : Heap 𝓤) (A : Atoms 𝓤) (W : Given 𝓤 H A) (κ : Lft) (q : Share) (b o : ℕ) (γ : GName) (ys : List Entry) (i : ℕ) (room : Room E.the-row (length ys)) (within : i < length ys) (ℓ : Lifetime) (l₀ lt′ ls la ln lb lp lq le lo : ℕ) where
   abbrev slice : Ty
   slice = sliceTy (tyRef ℓ mut (pointee (E.the-row .written)))
 
@@ -276,11 +293,16 @@ module _ {M : Type 1} (𝓤 : URA M) (H : Heap 𝓤) (A : Atoms 𝓤) (W : Given
 
   -- after the call: its result d lies in its local
   abbrev pub Called : Out → List (Item 𝓤) → List (Item 𝓤)
-  Called d Γ = Table ys (‵ (fat fullShare (tyInt w64) la 0 (vint w64 i)) ∷ ‵ (froom (tyInt w64) ln 0) ∷ ‵ (froom R′.mir l₀ 0) ∷ ‵ (froom tyPtr lq 0) ∷ ‵ (fat fullShare O′.mir lo 0 (LL.val O.the-type O′.the-laws d)) ∷ Γ)
+  Called d Γ = Table ys (‵ (fat fullShare (tyInt w64) la 0 (vint w64 i)) ∷ ‵ (froom (tyInt w64) ln 0) ∷ ‵ (froom R′.mir l₀ 0) ∷ ‵ (froom tyPtr lq 0) ∷ ‵ (fat fullShare O′.mir lo 0 (LL.val O.the-type O′.the-laws d)) ∷ ‵ (froom tyBool lb 0) ∷ Γ)
+
+  -- at the end, where it is a refusal, and where the record was stored
+  abbrev pub Kept : Out → List (Item 𝓤) → List (Item 𝓤)
+  Kept d Γ = Table ys (‵ (fat fullShare (tyInt w64) la 0 (vint w64 i)) ∷ ‵ (froom (tyInt w64) ln 0) ∷ ‵ (fat fullShare R′.mir l₀ 0 (answer-val (d .answer)))
+      ∷ ‵ (froom tyPtr lq 0) ∷ ‵ (fat fullShare O′.mir lo 0 (LL.val O.the-type O′.the-laws d)) ∷ ‵ (froom tyBool lb 0) ∷ Γ)
 
   abbrev pub Stored : Out → List (Item 𝓤) → List (Item 𝓤)
   Stored d Γ = Table (set ys i (d .entry)) (‵ (fat fullShare (tyInt w64) la 0 (vint w64 i)) ∷ ‵ (fat fullShare (tyInt w64) ln 0 (vint w64 (i * size))) ∷ ‵ (fat fullShare R′.mir l₀ 0 (answer-val (d .answer)))
-      ∷ ‵ (fat fullShare tyPtr lq 0 (vptr b (lies-at size o i))) ∷ ‵ (fat fullShare O′.mir lo 0 (LL.val O.the-type O′.the-laws d)) ∷ Γ)
+      ∷ ‵ (fat fullShare tyPtr lq 0 (vptr b (lies-at size o i))) ∷ ‵ (fat fullShare O′.mir lo 0 (LL.val O.the-type O′.the-laws d)) ∷ ‵ (froom tyBool lb 0) ∷ Γ)
 
   small : i * size < 2 ^ 64
   small = omega (arith, within, room .1)
@@ -300,11 +322,16 @@ module _ {M : Type 1} (𝓤 : URA M) (H : Heap 𝓤) (A : Atoms 𝓤) (W : Given
         assigns ! (of-opd ! (load ! (at ! at-p (hop ! (look ! 10 refl) (stop !))) (look-raw ! 0 refl))) (at ! at-e (stop !)) (init ! 11 refl (LL.lawful E.the-type E′.the-laws 𝓤 H A W .typed e _ is .0)) $
         elem-back ! E.the-row fullShare ys i fresh (LL.vals E.the-type E′.the-laws e) b o within $ closes-slice ! tt E.the-row ys ys refl b o $ forget ! 6 refl $ forget ! 7 refl $ goes-on is)
 
-    pub stores-record : (kq ko : ℕ) → spotOf 𝓤 H En 0 ≡ (R′.mir, l₀, 0) → spotOf 𝓤 H En kq ≡ (tyPtr, lq, 0) → spotOf 𝓤 H En ko ≡ (O′.mir, lo, 0) → (d : Out) (v : Val) → Is O.the-row d (v ∷ [])
+    pub stores-record : (kb kq ko : ℕ) → spotOf 𝓤 H En 0 ≡ (R′.mir, l₀, 0) → spotOf 𝓤 H En kb ≡ (tyBool, lb, 0) → spotOf 𝓤 H En kq ≡ (tyPtr, lq, 0) → spotOf 𝓤 H En ko ≡ (O′.mir, lo, 0) → (d : Out) (v : Val) → Is O.the-row d (v ∷ [])
+        → (Is-answer (d .answer) → T (not (eqb (d .answer .code) 0)) → Sq W (Kept d Γ) (frees En (prop (Kf (answer-val (d .answer))))))
         → (Is-answer (d .answer) → Sq W (Stored d Γ) (frees En (prop (Kf (answer-val (d .answer))))))
-        → Sq W (Called d Γ) (runs C Λ En (store-at kt ka kn kq ko) (atRet En Kf))
-    stores-record kq ko at-0 at-q at-o d v is ends =
+        → Sq W (Called d Γ) (runs C Λ En (store-at kt ka kn kb kq ko) (atRet En Kf))
+    stores-record kb kq ko at-0 at-b at-q at-o d v is keeps ends =
         let fields = LL.owed O.the-type O′.the-laws d (v ∷ []) is in
+        assigns ! (bin ! (load ! (at ! at-o (fld ! refl (fld ! refl (stop !)))) (look-in ! 8 (sub ! 0 refl (sub ! 1 refl (whole !))))) (lit ! tt) tt) (at ! at-b (stop !)) (init ! 9 refl (tt, tt)) $
+        guards ! (load ! (at ! at-b (stop !)) (look ! 9 refl)) (λ held.
+        assigns ! (of-opd ! (load ! (at ! at-o (fld ! refl (stop !))) (look-in ! 8 (sub ! 1 refl (whole !))))) (at ! at-0 (stop !)) (init ! 6 refl (LL.lawful R.the-type R′.the-laws 𝓤 H A W .typed (d .answer) _ (fields .1 .0) .0)) $
+        returns-within ! Kf refl (result ! En at-0 (look ! 6 refl)) $ forget ! 9 refl $ keeps (fields .1 .0) held) (λ failed. forget ! 9 refl $
         assigns ! (bin ! (load ! (at ! at-a (stop !)) (look ! 4 refl)) (constant ! size (lit< tt)) (record { fits = small })) (at ! at-n (stop !)) (init ! 5 refl (tt, record { fits = small })) $
         assigns ! (bin ! (load ! (at ! at-t (fld ! refl (stop !))) (look-in ! 3 (sub ! 0 refl (whole !)))) (load ! (at ! at-n (stop !)) (look ! 5 refl)) tt) (at ! at-q (stop !)) (init ! 7 refl (tt, tt)) $
         rewrite ! 7 (λ (p : ℕ). ‵ (fat fullShare tyPtr lq 0 (vptr b p))) (sym (place-is size o i)) refl $
@@ -314,7 +341,7 @@ module _ {M : Type 1} (𝓤 : URA M) (H : Heap 𝓤) (A : Atoms 𝓤) (W : Given
         move ! (1 ∷ []) $ drop ! $ owned ! E.the-row (Is E.the-row) (LL.makes E.the-type E′.the-plain 𝓤 H A) (d .entry) _ (fields .0) $ move ! (1 ∷ 0 ∷ []) $
         elem-put ! E.the-row fullShare ys i (d .entry) (LL.vals E.the-type E′.the-laws (d .entry)) b o within $ closes-slice ! tt E.the-row ys (set ys i (d .entry)) (length-set ys i (d .entry)) b o $
         assigns ! (of-opd ! (load ! (at ! at-o (fld ! refl (stop !))) (look-in ! 8 (sub ! 1 refl (whole !))))) (at ! at-0 (stop !)) (init ! 6 refl (LL.lawful R.the-type R′.the-laws 𝓤 H A W .typed (d .answer) _ (fields .1 .0) .0)) $
-        returns ! (result ! En at-0 (look ! 6 refl)) $ ends (fields .1 .0))
+        returns ! (result ! En at-0 (look ! 6 refl)) $ ends (fields .1 .0)))
 
 -- ---- the call
 -- what a callee asks that takes the record in the table's place: the tokens tk and what its other parameters own, Q, are had

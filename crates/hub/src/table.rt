@@ -2,6 +2,7 @@
 // Each contract says that the function is its request's step: r is the step's answer, and what is lent is left as the step leaves it.
 // What a function is not lent may be anything: the step leaves it alone. Open and close are lent no widths and no record bytes, submit and take no number of open
 // jobs, a take no widths.
+// A refusal leaves the entry, so it isn't stored back.
 ghost use mathlib.Core.Path.{_≡_};
 ghost use mathlib.Core.List.{List};
 ghost use Prim.Native.Nat.{ℕ};
@@ -50,6 +51,9 @@ pub extern "C" fn halviruso_open(
     }
     let at = slot as usize;
     let o = open_entry(table[at], open_jobs, key, d);
+    if o.answer.code != 0 {
+        return o.answer;
+    }
     table[at] = o.entry;
     o.answer
 }
@@ -83,6 +87,9 @@ pub extern "C" fn halviruso_submit(
     }
     let at = slot as usize;
     let o = submit_slot(table[at], records, widths, slot, key, number, part);
+    if o.answer.code != 0 {
+        return o.answer;
+    }
     table[at] = o.entry;
     o.answer
 }
@@ -111,6 +118,9 @@ pub extern "C" fn halviruso_take(
     }
     let at = slot as usize;
     let o = take_slot(table[at], records, slot, key, total);
+    if o.answer.code != 0 {
+        return o.answer;
+    }
     table[at] = o.entry;
     o.answer
 }
@@ -135,6 +145,9 @@ pub extern "C" fn halviruso_close(
     }
     let at = slot as usize;
     let o = close_entry(table[at], open_jobs, key);
+    if o.answer.code != 0 {
+        return o.answer;
+    }
     table[at] = o.entry;
     o.answer
 }

@@ -48,7 +48,7 @@ use Rattle.hub.proofs.jobs.Out as O
 use Rattle.hub.proofs.jobs.Out.Laws as O′
 use Rattle.hub.proofs.Left.{Post, ends, meets, gives-up, gives-up-one, trues, silent}
 use Rattle.hub.proofs.Steps.{free-at}
-use Rattle.hub.proofs.Thin.{Size, within-table, answer-val, Is-answer, way-is, IsReply, refused-step, taken-step, tests-request, reads-record, stores-record, calls-record, with-record}
+use Rattle.hub.proofs.Thin.{Size, within-table, answer-val, Is-answer, way-is, IsReply, refused-step, taken-step, kept-step, tests-request, reads-record, stores-record, calls-record, with-record}
 use Rattle.hub.proofs.entries.close_entry as callee
 use Rattle.hub.proofs.entries.close_entry.Symbol as callee-def
 use Rattle.hub.proofs.entries.close_entry.Symbol.{name as #callee}
@@ -139,15 +139,18 @@ module _ {M : Type 1} (𝓤 : URA M) (H : Heap 𝓤) (A : Atoms 𝓤) (W : Given
         move ! (4 ∷ []) $ use1 W (‵ (lasts callee.ended κs (e, on) (tt, (x-open_jobs .now, (tt, tt))))) kept $ keep ! (1 ∷ 3 ∷ 4 ∷ 0 ∷ []) $
         by ! (exits r ys (x-open_jobs .now, (tt, tt)) (λ x-widths x-records. refused-step x-widths (hub ys x-records (x-open_jobs .now)) request way) (way-is way) refl)) (λ both.
         move ! (26 ∷ 27 ∷ 28 ∷ 23 ∷ 19 ∷ 15 ∷ 0 ∷ 9 ∷ 7 ∷ []) $
-        reads-record 𝓤 H A W κ q b o γ ys x-slot room (within-table 1 ys others x-slot both) (named 0) l₀ l₁ l₃ l₅ l₇ l₉ l₁₂ l₁₀ l₆ C Λ _ 1 5 7 refl refl refl End _ 3 9 10 refl refl refl _ (λ is.
+        reads-record 𝓤 H A W κ q b o γ ys x-slot room (within-table 1 ys others x-slot both) (named 0) l₀ l₁ l₃ l₅ l₇ l₈ l₉ l₁₂ l₁₀ l₆ C Λ _ 1 5 7 refl refl refl End _ 3 9 10 refl refl refl _ (λ is.
         assigns ! (addr ! (from ! (hop ! (look ! 25 refl) (stop !)))) (from ! (stop !)) (init ! 13 refl (tt, tt)) $
         move ! (29 ∷ 30 ∷ []) $ use2 W (raw (Callee 𝓤 H A mem run .pre to)) (with-record 𝓤 H A W e is tk Rest) $
         calls-record fm (Callee 𝓤 H A mem run) known to (Unit {0} × Ws) tk (lasts callee.ended κs (e, on)) _ (λ w. id⊢ 𝓤 _)
         (and-then ! (load ! (from ! (stop !)) (look ! 9 refl)) (and-then ! (load ! (from ! (stop !)) (look ! 14 refl)) (and-then ! (load ! (from ! (stop !)) (look ! 23 refl)) (no-more !)))) (λ w d us said isr tells.
         land ! (from ! (stop !)) (init ! 21 refl (LL.lawful O.the-type O′.the-laws 𝓤 H A W .typed d _ isr .0)) $ rewrite ! 21 (λ (u : Val). ‵ (fat fullShare O′.mir l₆ 0 u)) tells refl $
-        move ! (2 ∷ 3 ∷ 4 ∷ 5 ∷ 7 ∷ 8 ∷ 12 ∷ 13 ∷ 21 ∷ []) $
-        stores-record 𝓤 H A W κ q b o γ ys x-slot room (within-table 1 ys others x-slot both) (named 0) l₀ l₁ l₃ l₅ l₇ l₉ l₁₂ l₁₀ l₆ C Λ _ 1 5 7 refl refl refl End _ 12 6 refl refl refl d w isr (λ is-answer.
-        move ! (6 ∷ 30 ∷ 3 ∷ 29 ∷ 27 ∷ 28 ∷ 11 ∷ 26 ∷ 24 ∷ 25 ∷ 4 ∷ 23 ∷ 8 ∷ 22 ∷ 5 ∷ 21 ∷ 14 ∷ 20 ∷ 12 ∷ 19 ∷ 13 ∷ 18 ∷ 16 ∷ 17 ∷ 7 ∷ 15 ∷ []) $
+        move ! (2 ∷ 3 ∷ 4 ∷ 5 ∷ 7 ∷ 8 ∷ 12 ∷ 13 ∷ 21 ∷ 11 ∷ []) $
+        stores-record 𝓤 H A W κ q b o γ ys x-slot room (within-table 1 ys others x-slot both) (named 0) l₀ l₁ l₃ l₅ l₇ l₈ l₉ l₁₂ l₁₀ l₆ C Λ _ 1 5 7 refl refl refl End _ 8 12 6 refl refl refl refl d w isr (λ is-answer other.
+        move ! (6 ∷ 30 ∷ 3 ∷ 29 ∷ 27 ∷ 28 ∷ 12 ∷ 26 ∷ 24 ∷ 25 ∷ 4 ∷ 23 ∷ 8 ∷ 22 ∷ 5 ∷ 21 ∷ 9 ∷ 20 ∷ 13 ∷ 19 ∷ 14 ∷ 18 ∷ 16 ∷ 17 ∷ 7 ∷ 15 ∷ []) $
+        free-at ! $ free-at ! $ free-at ! $ free-at ! $ free-at ! $ free-at ! $ free-at ! $ free1 ! $ free1 ! $ free1 ! $ free-at ! $ free-at ! $ free1 ! $ free0 ! $
+        keep ! (0 ∷ 2 ∷ 3 ∷ 4 ∷ []) $ by ! (exits (d .answer) ys (us .1) (λ x-widths x-records. kept-step x-widths (hub ys x-records (x-open_jobs .now)) request both d x-records (us .1 .0) (said .0) refl (said .1) other) is-answer refl)) (λ is-answer.
+        move ! (6 ∷ 30 ∷ 3 ∷ 29 ∷ 27 ∷ 28 ∷ 12 ∷ 26 ∷ 24 ∷ 25 ∷ 4 ∷ 23 ∷ 8 ∷ 22 ∷ 5 ∷ 21 ∷ 9 ∷ 20 ∷ 13 ∷ 19 ∷ 14 ∷ 18 ∷ 16 ∷ 17 ∷ 7 ∷ 15 ∷ []) $
         free-at ! $ free-at ! $ free-at ! $ free-at ! $ free-at ! $ free-at ! $ free-at ! $ free-at ! $ free1 ! $ free1 ! $ free-at ! $ free-at ! $ free-at ! $ free0 ! $
         keep ! (0 ∷ 2 ∷ 3 ∷ 4 ∷ []) $ by ! (exits (d .answer) (set ys x-slot (d .entry)) (us .1) (λ x-widths x-records. taken-step x-widths (hub ys x-records (x-open_jobs .now)) request both d x-records (us .1 .0) (said .0) refl (said .1)) is-answer (length-set ys x-slot (d .entry))))))))))))))))))))
 

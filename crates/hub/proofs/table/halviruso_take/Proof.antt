@@ -49,7 +49,7 @@ use Rattle.hub.proofs.jobs.Out as O
 use Rattle.hub.proofs.jobs.Out.Laws as O′
 use Rattle.hub.proofs.Left.{Post, ends, meets, gives-up, trues, silent}
 use Rattle.hub.proofs.Steps.{free-at}
-use Rattle.hub.proofs.Thin.{Size, sized, sized-right, within-table, in-slots, answer-val, Is-answer, way-is, IsReply, refused-step, taken-step, tests-request, reads-record, stores-record, calls-record, with-record-given}
+use Rattle.hub.proofs.Thin.{Size, sized, sized-right, within-table, in-slots, answer-val, Is-answer, way-is, IsReply, refused-step, taken-step, kept-step, tests-request, reads-record, stores-record, calls-record, with-record-given}
 use Rattle.hub.proofs.take.take_slot as callee
 use Rattle.hub.proofs.take.take_slot.Symbol as callee-def
 use Rattle.hub.proofs.take.take_slot.Symbol.{name as #callee}
@@ -140,16 +140,19 @@ module _ {M : Type 1} (𝓤 : URA M) (H : Heap 𝓤) (A : Atoms 𝓤) (W : Given
         move ! (4 ∷ []) $ use1 W (‵ (lasts callee.ended κs (e, on) (tt, (x-records .now, (tt, (tt, (tt, tt))))))) kept $ keep ! (1 ∷ 3 ∷ 4 ∷ 0 ∷ []) $
         by ! (exits r ys (x-records .now, (tt, (tt, (tt, tt)))) (λ x-widths x-open_jobs. refused-step x-widths (hub ys (x-records .now) x-open_jobs) request way) (way-is way) refl)) (λ both.
         move ! (30 ∷ 31 ∷ 32 ∷ 27 ∷ 23 ∷ 17 ∷ 0 ∷ 11 ∷ 9 ∷ []) $
-        reads-record 𝓤 H A W κ q b o γ ys x-slot room (within-table 1 ys others x-slot both) (named 0) l₀ l₁ l₃ l₆ l₈ l₁₀ l₁₄ l₁₁ l₇ C Λ _ 1 6 8 refl refl refl End _ 3 10 11 refl refl refl _ (λ is.
+        reads-record 𝓤 H A W κ q b o γ ys x-slot room (within-table 1 ys others x-slot both) (named 0) l₀ l₁ l₃ l₆ l₈ l₉ l₁₀ l₁₄ l₁₁ l₇ C Λ _ 1 6 8 refl refl refl End _ 3 10 11 refl refl refl _ (λ is.
         assigns ! (addr ! (from ! (fld ! refl (hop ! (look-in ! 29 (sub ! 0 refl (whole !))) (stop !))))) (from ! (stop !)) (init ! 15 refl (tt, tt)) $
         assigns ! (agg ! (and-then ! (load ! (from ! (stop !)) (look ! 15 refl)) (and-then ! (load ! (from ! (fld ! refl (stop !))) (look-in ! 29 (sub ! 1 refl (whole !)))) (no-more !)))) (from ! (stop !)) (init ! 13 refl (tt, (tt, (record { fits = x-records-fits }, tt)))) $
         move ! (33 ∷ 34 ∷ []) $ use2 W (raw (Callee 𝓤 H A mem run .pre to)) (with-record-given 𝓤 H A W e is tk Rest ((x-slot < 16) × ((length (x-records .now) ≡ 65536))) (in-slots (sized true gs) x-slot ys both, (sized-right true gs (both .0) .1 .1 .0))) $
         calls-record fm (Callee 𝓤 H A mem run) known to (Unit {0} × Ws) tk (lasts callee.ended κs (e, on)) _ (λ w. id⊢ 𝓤 _)
         (and-then ! (load ! (from ! (stop !)) (look ! 9 refl)) (and-then ! (load ! (from ! (stop !)) (look ! 14 refl)) (and-then ! (load ! (from ! (stop !)) (look ! 5 refl)) (and-then ! (load ! (from ! (stop !)) (look ! 27 refl)) (and-then ! (load ! (from ! (stop !)) (look ! 25 refl)) (no-more !)))))) (λ w d us said isr tells.
         land ! (from ! (stop !)) (init ! 23 refl (LL.lawful O.the-type O′.the-laws 𝓤 H A W .typed d _ isr .0)) $ rewrite ! 23 (λ (u : Val). ‵ (fat fullShare O′.mir l₇ 0 u)) tells refl $
-        move ! (2 ∷ 3 ∷ 4 ∷ 5 ∷ 7 ∷ 8 ∷ 12 ∷ 13 ∷ 23 ∷ []) $
-        stores-record 𝓤 H A W κ q b o γ ys x-slot room (within-table 1 ys others x-slot both) (named 0) l₀ l₁ l₃ l₆ l₈ l₁₀ l₁₄ l₁₁ l₇ C Λ _ 1 6 8 refl refl refl End _ 14 7 refl refl refl d w isr (λ is-answer.
-        move ! (6 ∷ 34 ∷ 3 ∷ 33 ∷ 31 ∷ 32 ∷ 11 ∷ 30 ∷ 28 ∷ 29 ∷ 26 ∷ 27 ∷ 4 ∷ 25 ∷ 8 ∷ 24 ∷ 5 ∷ 23 ∷ 14 ∷ 22 ∷ 12 ∷ 21 ∷ 13 ∷ 20 ∷ 18 ∷ 19 ∷ 16 ∷ 17 ∷ 7 ∷ 15 ∷ []) $
+        move ! (2 ∷ 3 ∷ 4 ∷ 5 ∷ 7 ∷ 8 ∷ 12 ∷ 13 ∷ 23 ∷ 11 ∷ []) $
+        stores-record 𝓤 H A W κ q b o γ ys x-slot room (within-table 1 ys others x-slot both) (named 0) l₀ l₁ l₃ l₆ l₈ l₉ l₁₀ l₁₄ l₁₁ l₇ C Λ _ 1 6 8 refl refl refl End _ 9 14 7 refl refl refl refl d w isr (λ is-answer other.
+        move ! (6 ∷ 34 ∷ 3 ∷ 33 ∷ 31 ∷ 32 ∷ 12 ∷ 30 ∷ 28 ∷ 29 ∷ 26 ∷ 27 ∷ 4 ∷ 25 ∷ 8 ∷ 24 ∷ 5 ∷ 23 ∷ 9 ∷ 22 ∷ 13 ∷ 21 ∷ 14 ∷ 20 ∷ 18 ∷ 19 ∷ 16 ∷ 17 ∷ 7 ∷ 15 ∷ []) $
+        free-at ! $ free-at ! $ free-at ! $ free-at ! $ free-at ! $ free-at ! $ free-at ! $ free-at ! $ free1 ! $ free1 ! $ free1 ! $ free-at ! $ free-at ! $ free-at ! $ free1 ! $ free0 ! $
+        keep ! (0 ∷ 2 ∷ 3 ∷ 4 ∷ []) $ by ! (exits (d .answer) ys (us .1) (λ x-widths x-open_jobs. kept-step x-widths (hub ys (x-records .now) x-open_jobs) request both d (us .1 .0) x-open_jobs (said .0) (said .1) refl other) is-answer refl)) (λ is-answer.
+        move ! (6 ∷ 34 ∷ 3 ∷ 33 ∷ 31 ∷ 32 ∷ 12 ∷ 30 ∷ 28 ∷ 29 ∷ 26 ∷ 27 ∷ 4 ∷ 25 ∷ 8 ∷ 24 ∷ 5 ∷ 23 ∷ 9 ∷ 22 ∷ 13 ∷ 21 ∷ 14 ∷ 20 ∷ 18 ∷ 19 ∷ 16 ∷ 17 ∷ 7 ∷ 15 ∷ []) $
         free-at ! $ free-at ! $ free-at ! $ free-at ! $ free-at ! $ free-at ! $ free-at ! $ free-at ! $ free-at ! $ free1 ! $ free1 ! $ free-at ! $ free-at ! $ free-at ! $ free-at ! $ free0 ! $
         keep ! (0 ∷ 2 ∷ 3 ∷ 4 ∷ []) $ by ! (exits (d .answer) (set ys x-slot (d .entry)) (us .1) (λ x-widths x-open_jobs. taken-step x-widths (hub ys (x-records .now) x-open_jobs) request both d (us .1 .0) x-open_jobs (said .0) (said .1) refl) is-answer (length-set ys x-slot (d .entry))))))))))))))))))))))
 
