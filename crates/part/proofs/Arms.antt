@@ -17,15 +17,13 @@ use Rattle.part.specs.Elements.{Element, ruleWidth, drawnRule}
 use Rattle.part.specs.States.{point, withAt, withSuppression}
 use Rattle.part.specs.Types.{Lengths, all, allBut, _takes_, Row, types, rowOf, valuesOf}
 use Rattle.part.specs.Presenting.{default, moved}
-use Rattle.part.specs.Text.{cycle}
-use Rattle.part.specs.Place.{Effect, becomes, toInline, toBaseline, place, placeText}
+use Rattle.part.specs.Place.{Effect, becomes, toInline, toBaseline, place}
 use Rattle.part.specs.Part.{roomed, placed}
 use Rattle.part.specs.Code.{verdict, stateOf, stateAfter, inked, ruled, repeating, performed}
 use Rattle.part.specs.Working.{absolute, relative, line, setting, fontSetting, adjusting, oriented, beginning, ending}
 use Rattle.part.specs.declared.shapes.Descriptor.{Descriptor}
 use Rattle.part.specs.declared.shapes.State.{State}
 use Rattle.part.proofs.Checks.{same-value}
-use Rattle.part.proofs.Cycles.{once}
 use Rattle.part.proofs.Places.{inline-set, baseline-set, line-set, margin-set, increment-set, adjustment-set, font-set, colour-set, space-set, suppression-set}
 
 -- a function that stores no record, behind the test of the LENGTH: its verdict on the numbers is that on the state, and the area stays
@@ -198,10 +196,6 @@ module _ (widths : List ℕ) (d : Descriptor) (w p : List ℕ) (twelve : length 
   arm-RPS =
       asked 0xEE (all 4 255) (repeating widths d (stateOf w) p) refl
       (under 0 (word 0 p 0 ∈ upTo (if ltb 2 (length p) then 0x7FFF else 0)) 24 _ _ _ (λ t. refl))
-
-  pub arm-TRN : does 0xDA (all 2 255) (roomed (stateOf w) (placeText widths d (stateOf w) (cycle p 0 (length p))))
-  unfolding types placed place
-  arm-TRN = asked 0xDA (all 2 255) (roomed (stateOf w) (placeText widths d (stateOf w) (cycle p 0 (length p)))) refl (rw (once p))
 
   pub arm-NOP : does 0xF8 (all 2 255) (becomes (stateOf w))
   unfolding types placed place

@@ -1,33 +1,19 @@
 -- The record of a text: a head of sixteen bytes and the characters; it is refused or stored by its length.
 -- Assumes nothing.
-use Prim.Native.Nat.{ℕ, _+_, _-_, _<_, _≤_}
-use mathlib.Core.Path.{_≡_, sym}
+use Prim.Native.Nat.{ℕ, _+_, _<_, _≤_}
+use mathlib.Core.Path.{_≡_, sym, ap}
 use mathlib.Core.List.{List, [], _∷_, _++_, append-nil}
 use native.Mathlib.Omega.{arith}
 use lib.ListN.{length}
-use lib.Dec.{eqb}
+use lib.Seq.{sets}
 use borrow.Author.Tests.{le-leb, lt-leb}
-use Rattle.part.specs.Numbers.{if_then_else_, origin}
 use Rattle.part.specs.Checks.{refuse}
 use Rattle.part.specs.States.{withInline, withUsed}
 use Rattle.part.specs.Records.{bytesOf, allBytes}
 use Rattle.part.specs.Place.{effect, shownText}
-use Rattle.part.specs.Code.{advanced, headBytes}
+use Rattle.part.specs.Code.{advanced, headOf, headBytes}
 use Rattle.part.specs.declared.shapes.State.{State}
 use Rattle.part.specs.declared.record.Head.{Head}
-
--- the eight numbers that a text's record begins with
-abbrev pub headOf : State → ℕ → Head
-headOf s n = record {
-  len = 16 + n;
-  kind = 1;
-  i = s .at .i + origin;
-  b = s .at .b + origin;
-  first = s .font;
-  second = s .colour;
-  third = (if eqb (s .direction) 1 then 65536 - s .adjustment else s .adjustment);
-  fourth = s .space;
-}
 
 text-length : (s : State) (cs : List ℕ) → length (bytesOf (shownText s cs)) ≡ 16 + length cs
 unfolding bytesOf
@@ -49,3 +35,7 @@ module _ (s : State) (i : ℕ) (cs : List ℕ) where
   pub text-bytes : headBytes (headOf s (length cs)) ++ cs ≡ allBytes (shownText s cs ∷ [])
   unfolding bytesOf
   text-bytes = sym (append-nil _)
+
+-- a record as the code stores it: its head, and the characters
+pub recorded-text : (area : List ℕ) (s : State) (used i : ℕ) (cs : List ℕ) (h : Head) → used ≡ s .used → h ≡ headOf s (length cs) → sets area used (headBytes h ++ cs) ≡ sets area (s .used) (allBytes (shownText s cs ∷ []))
+recorded-text area s used i cs h u e = rw (u, e) (ap (sets area (s .used)) (text-bytes s i cs))

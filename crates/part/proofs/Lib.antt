@@ -19,6 +19,7 @@ pub mod Outcomes
 pub mod Parts
 pub mod Places
 pub mod Placing
+pub mod Plains
 pub mod Pointing
 pub mod Reading
 pub mod Refusals

@@ -2,7 +2,7 @@
 -- Assumes nothing.
 use Prim.Native.Nat.{ℕ, zero, suc, _+_, _-_, _<_, _≤_}
 use mathlib.Core.Path.{_≡_, refl, sym, _∙_, ap}
-use mathlib.Core.Bool.{Bool, true, false, _&&_}
+use mathlib.Core.Bool.{Bool, true, false, _&&_, and-false}
 use mathlib.Core.List.{List, [], _∷_}
 use native.Mathlib.Nat.{add-zero}
 use native.Mathlib.Numerals.{add-one}
@@ -13,7 +13,7 @@ use lib.Dec.{leb, eqb}
 use borrow.Author.Tests.{le-leb, lt-leb, eq-eqb, ne-eqb, eqb-true}
 use Rattle.part.specs.Numbers.{if_then_else_}
 use Rattle.part.specs.Checks.{Checked, fine, fault, refuse, require, requireAt, startingAt, _>>=_, _>>_}
-use Rattle.part.specs.Elements.{Element}
+use Rattle.part.specs.Elements.{Element, Text}
 use Rattle.part.specs.Types.{function, chaining, Row, types, rowOf, _takes_}
 use Rattle.part.specs.Reading.{Found, found, between, sequence}
 use Rattle.part.specs.Code.{verdict, lengthsIn, fitted, cutShort}
@@ -155,6 +155,11 @@ module _ (at : ℕ) (bytes : List ℕ) (began : at + 2 ≤ length bytes) where
   body-cut long h k x e =
       rw (le-leb (at + 2) (length bytes) began, le-leb 2 n long)
       (stops at (λ r. startingAt (at + 2) (r .values body) >>= λ e. found e (at + n) (chaining type)) (startingAt (at + 1) (rowOf types (function type))) (leb (at + n) (length bytes)) n k x (lt-leb (at + n) (length bytes) h) e)
+
+-- the row of TRN takes every LENGTH from 2 on, and its parameters are text
+pub text-row : (at : ℕ) (p : List ℕ) → 2 + length p ≤ 255 → fitted at 0xDA p ≡ fine (Text p)
+unfolding types
+text-row at p h = rw (le-leb 2 (2 + length p) (omega arith), le-leb (2 + length p) 255 h, lt-leb (2 + length p) 0 (omega arith), and-false (leb 0 (2 + length p)))
 
 -- ---- parameters
 

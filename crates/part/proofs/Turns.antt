@@ -15,7 +15,6 @@ use Rattle.part.specs.Ranges.{hold, descriptorFields}
 use Rattle.part.specs.Elements.{Element, Text}
 use Rattle.part.specs.Reading.{Found, Piece, piece, found, element, cutFrom, cut}
 use Rattle.part.specs.Records.{Item, allBytes}
-use Rattle.part.specs.Text.{cycle}
 use Rattle.part.specs.Place.{Effect, effect, place, placeText}
 use Rattle.part.specs.Part.{roomed, placed, passed, passedBy, elements, elementsBy}
 use Rattle.part.specs.Code.{verdict, nearer, fitted, stateOf, stateAfter, inked, performed, Ready, Completed, Ran}
@@ -24,7 +23,6 @@ use Rattle.part.specs.declared.shapes.State.{State}
 use Rattle.part.proofs.Bounds.{used-fits}
 use Rattle.part.proofs.Checks.{OfCode, went-on, same-value, value-of, fault-of}
 use Rattle.part.proofs.Cutting.{cut-one, cut-fault, enough}
-use Rattle.part.proofs.Cycles.{once}
 use Rattle.part.proofs.Fits.{Coded}
 use Rattle.part.proofs.Kept.{passed-kept, cut-leaves}
 use Rattle.part.proofs.Nearer.{performed-nearer}
@@ -69,9 +67,9 @@ pub record Step (widths : List ℕ) (d : Descriptor) (s : State) (chain : ℕ) (
   pub leads : (element chain rest >>= passed widths d s) ≡ (q >>= λ done. effect (withChain (done .state) chains) (done .items))
 
 module _ (widths : List ℕ) (d : Descriptor) (s : State) (chain : ℕ) (rest : List ℕ) where
-  pub run-step : (size : ℕ) → found (Text (take size rest)) size 0 ≡ element chain rest → Step widths d s chain rest size 0 (placed widths d s (Text (take size rest)))
+  pub text-step : (t : List ℕ) (size chains : ℕ) → found (Text t) size chains ≡ element chain rest → Step widths d s chain rest size chains (placed widths d s (Text t))
   unfolding passedBy
-  run-step size e = record { reads = λ g h. (_, sym e, refl, refl); leads = rw (← e) refl }
+  text-step t size chains e = record { reads = λ g h. (_, sym e, refl, refl); leads = rw (← e) refl }
 
   fitted-step : (at function size chains : ℕ) (p : List ℕ) → (fitted at function p >>= λ e. found e size chains) ≡ element chain rest → Step widths d s chain rest size chains (fitted at function p >>= placed widths d s)
   unfolding passedBy
@@ -91,10 +89,10 @@ module _ (widths : List ℕ) (d : Descriptor) (s : State) (chain : ℕ) (rest : 
       → Step widths d s chain rest size chains (nearer (4 - from) (performed widths d s function p))
   sequence-step from function size chains p least most h = rw (performed-nearer widths d s function (4 - from) (from - 2) p (omega arith)) (fitted-step (from - 2) function size chains p h)
 
--- a free run as the code hands it on: as many characters as it has
-pub text-placed : (widths : List ℕ) (d : Descriptor) (s : State) (t : List ℕ) (n : ℕ) → n ≡ length t → roomed s (placeText widths d s (cycle t 0 n)) ≡ placed widths d s (Text t)
+-- text as the code hands it on
+pub text-placed : (widths : List ℕ) (d : Descriptor) (s : State) (t : List ℕ) → roomed s (placeText widths d s t) ≡ placed widths d s (Text t)
 unfolding placed place
-text-placed widths d s t n e = rw (e, once t)
+text-placed widths d s t = refl
 
 -- a state's verdict tells the effect's
 pub effect-fault : (code j : ℕ) (q : Checked Effect) → fault code j ≡ stateAfter q → q ≡ fault code j

@@ -8,7 +8,7 @@ use denote.Triple.Both.{Both}
 use lib.ListN.{length, take, drop, getD}
 use lib.Seq.{sets}
 use lib.Dec.{ltb, leb, eqb}
-use Rattle.part.specs.Numbers.{if_then_else_, origin, ones, byte, word, little}
+use Rattle.part.specs.Numbers.{if_then_else_, origin, last, ones, byte, word, little}
 use Rattle.part.specs.Checks.{Checked, fine, fault, refuse, require, requireAt, startingAt, _>>=_, _>>_}
 use Rattle.part.specs.States.{point, state, withInline}
 use Rattle.part.specs.Ranges.{upTo, _∈_, hold, descriptorFields, stateFields}
@@ -24,7 +24,7 @@ use Rattle.part.specs.declared.shapes.Descriptor.{Descriptor}
 use Rattle.part.specs.declared.shapes.State.{State}
 use Rattle.part.specs.declared.types.TypeRow.{TypeRow}
 use Rattle.part.specs.declared.reader.Read.{Read}
-use Rattle.part.specs.declared.reader.Read.the-variants.{Run, Sequence, Refused}
+use Rattle.part.specs.declared.reader.Read.the-variants.{Characters, Sequence, Refused}
 use Rattle.part.specs.declared.record.Head.{Head}
 use Rattle.part.specs.declared.run.Outcome.{Outcome}
 use Rattle.part.specs.declared.text.Line.{Line}
@@ -70,14 +70,14 @@ cutShort at code n = do
 -- ---- the element reader
 
 abbrev pub foundBy : List ℕ → Read → Checked Found
-foundBy bytes (Run size) = found (Text (take size bytes)) size 0
+foundBy bytes (Characters from size chains) = found (Text (between bytes from size)) size chains
 foundBy bytes (Sequence function from size chains) = fitted (from - 2) function (between bytes from size) >>= λ e. found e size chains
 foundBy bytes (Refused n) = verdict n (record { element = Text []; size = 0; chains = 0 })
 
--- it ends within so many bytes, and has one at least; parameters begin at 2 to 4
+-- it ends within so many bytes, and has one at least; parameters begin at 2 to 4; a TRN is characters
 abbrev pub Within : ℕ → Read → Type 0
-Within most (Run size) = (0 < size) × (size ≤ most)
-Within most (Sequence function from size chains) = (from ≤ size) × ((0 < size) × ((size ≤ most) × ((chains ≤ 1) × ((2 ≤ from) × (from ≤ 4)))))
+Within most (Characters from size chains) = (from ≤ size) × ((0 < size) × ((size ≤ most) × (chains ≤ 1)))
+Within most (Sequence function from size chains) = (from ≤ size) × ((0 < size) × ((size ≤ most) × ((chains ≤ 1) × (((2 ≤ from) × (from ≤ 4)) × (function ≡ 0xDA → ⊥)))))
 Within most (Refused n) = 0 < n
 
 -- ---- the working state: I, B, margin, increment, adjustment, direction, font, colour, variable space, suppression, chain, bytes used
@@ -148,6 +148,15 @@ performed widths d s function p = fitted 2 function p >>= placed widths d s
 abbrev pub baseline : Descriptor → State → Bool
 baseline d s = hides d s || (leb origin (s .at .b) && leb (s .at .b + 0) (origin + d .size .b))
 
+-- text that ends at a place and is shown, with nothing subtracted, from the sheet's edge on: its end decides for all of its characters
+pub record Plain (s : State) (sizeI sizeB end : ℕ) : Type 0 where
+  pub shown : s .suppression ≡ 0
+  pub down : (leb origin (s .at .b) && leb (s .at .b + 0) (origin + sizeB)) ≡ true
+  pub added : s .direction ≡ 0
+  pub begins : origin ≤ s .at .i
+  pub range : end ≤ last
+  pub ends : end ≤ origin + sizeI + s .adjustment
+
 -- its numbers, so that no sum of theirs wraps
 pub record Bounded (l : Line) : Type 0 where
   pub space : l .space < 4294967296
@@ -205,6 +214,19 @@ spacesIn = sumOf isSpace
 abbrev pub lowFirst : ℕ → ℕ → List ℕ
 lowFirst zero v = []
 lowFirst (suc n) v = v % 256 ∷ lowFirst n (v / 256)
+
+-- the eight numbers that a text's record begins with
+abbrev pub headOf : State → ℕ → Head
+headOf s n = record {
+  len = 16 + n;
+  kind = 1;
+  i = s .at .i + origin;
+  b = s .at .b + origin;
+  first = s .font;
+  second = s .colour;
+  third = (if eqb (s .direction) 1 then 65536 - s .adjustment else s .adjustment);
+  fourth = s .space;
+}
 
 abbrev pub headBytes : Head → List ℕ
 headBytes h =

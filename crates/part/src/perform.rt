@@ -42,7 +42,6 @@ use super::types::SIM;
 use super::types::STC;
 use super::types::STO;
 use super::types::SVI;
-use super::types::TRN;
 use super::types::TypeRow;
 use super::types::suits;
 use super::values::word_at;
@@ -186,7 +185,7 @@ fn mark_of(function: u8) -> u32
     if function == 0xE6 { 1 } else { 0 }
 }
 
-// One sequence whose body is whole, by its function code, with the bytes of its parameters. DBR's LENGTHs are DIR's.
+// One sequence whose body is whole, by its function code, with the bytes of its parameters. DBR's LENGTHs are DIR's; a TRN is text, and doesn't come here.
 pub fn perform(
     function: u8,
     p: &[u8],
@@ -195,7 +194,7 @@ pub fn perform(
     d: Descriptor,
     w: &mut [u32],
 ) -> u32
-    requires { ⌜ Ready (now widths) (now area) (now w) × (length (now p) < 65536) ⌝ }
+    requires { ⌜ Ready (now widths) (now area) (now w) × ((length (now p) < 65536) × (function ≡ 0xDA → ⊥)) ⌝ }
     ensures { λ r. ⌜ Does (λ s. performed (now (widths .entry)) d s function (now (p .entry))) r w area ⌝ }
 {
     match function {
@@ -222,12 +221,6 @@ pub fn perform(
         0xF2 => try_begin(BSU, p, w),
         0xF4 => try_end(ESU, p, w),
         0xE4 | 0xE6 => try_rule(DIR, mark_of(function), p, area, d, w),
-        // by a function of its own, as for the others, the descriptor would be copied once more
-        0xDA => if suits(TRN, p) {
-            show_text(p, p.len(), widths, area, d, w)
-        } else {
-            WRONG_LENGTH
-        },
         0xEE => repeat_string(RPS, p, widths, area, d, w),
         0xF8 => if suits(NOP, p) { 0 } else { WRONG_LENGTH },
         _ => UNKNOWN_TYPE,

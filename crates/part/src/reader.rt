@@ -11,9 +11,13 @@ use super::types::split;
 
 // An element. All numbers count from its first byte.
 pub enum Read {
-    // A free run of so many bytes.
-    Run(usize),
-    // A control sequence: its function code, where its parameters begin, its size, and 1 where it chains the next.
+    // Characters, a free run's or a TRN's: where they begin, the element's size, and 1 where it chains the next.
+    Characters {
+        from: usize,
+        size: usize,
+        chains: u32,
+    },
+    // Any other control sequence: its function code, where its parameters begin, its size, and 1 where it chains the next.
     Sequence {
         function: u8,
         from: usize,
@@ -88,6 +92,10 @@ fn read_sequence(bytes: &[u8], at: usize) -> Read
         return Read::Refused(misfit(kind.function, n, at as u16));
     }
     let chains = kind.chains as u32;
+    // TRN's row takes every LENGTH that comes here
+    if kind.function == 0xDA {
+        return Read::Characters { from, size, chains };
+    }
     Read::Sequence {
         function: kind.function,
         from,
@@ -105,7 +113,12 @@ pub fn read_element(bytes: &[u8], chain: u32) -> Read
         return read_sequence(bytes, 0);
     }
     if bytes[0] != 0x2B {
-        return Read::Run(run_length(bytes));
+        let size = run_length(bytes);
+        return Read::Characters {
+            from: 0,
+            size,
+            chains: 0,
+        };
     }
     if 1 < bytes.len() {
         if bytes[1] != 0xD3 {

@@ -11,7 +11,7 @@ use super::perform::perform;
 use super::reader::Read;
 use super::reader::read_element;
 use super::shapes::Descriptor;
-use super::show::show_text;
+use super::show::show_plain;
 use super::working::CHAIN;
 
 // How a run ended: the refusal, or 0, counted from its element; the offset of the element at fault; how many elements were passed.
@@ -48,12 +48,12 @@ pub fn run(part: &[u8], widths: &[u16], area: &mut [u8], d: Descriptor, w: &mut 
                 let fault = code as u32;
                 return Outcome { fault, at, count };
             }
-            Read::Run(size) => {
-                let fault = show_text(&rest[..size], size, widths, area, d, w);
+            Read::Characters { from, size, chains } => {
+                let fault = show_plain(&rest[from..size], widths, area, d, w);
                 if fault != 0 {
                     return Outcome { fault, at, count };
                 }
-                w[CHAIN] = 0;
+                w[CHAIN] = chains;
                 at += size;
                 count += 1;
             }

@@ -9,9 +9,12 @@ ghost use Rattle.part.specs.Presenting.{default, hides};
 ghost use Rattle.part.specs.Text.{cycle, characters};
 ghost use Rattle.part.specs.Place.{placeText};
 ghost use Rattle.part.specs.Part.{roomed};
-ghost use Rattle.part.specs.Code.{Does, reached, stateOf, advanced, baseline, Bounded, Ready};
+ghost use Rattle.part.specs.Code.{Does, reached, stateOf, advanced, baseline, Bounded, Plain, Ready, headOf};
+use super::bools::both;
 use super::bools::either;
+use super::numbers::LAST;
 use super::numbers::ONES;
+use super::numbers::lesser;
 use super::numbers::wide;
 use super::presenting::Reached;
 use super::presenting::is_hidden;
@@ -19,8 +22,10 @@ use super::presenting::within;
 use super::record::Head;
 use super::record::draw;
 use super::record::put_head;
+use super::record::store_text;
 use super::shapes::Descriptor;
 use super::text::Line;
+use super::text::plain_end;
 use super::text::present;
 use super::values::or_default;
 use super::working::ADJUSTMENT;
@@ -87,6 +92,23 @@ fn walk_line(
     present(t, count, row, l, wide(w[I]))
 }
 
+// The head of the record of so many characters at the working state's place.
+fn text_head(w: &[u32], n: usize) -> Head
+    requires { ⌜ (length (now w) ≡ 12) × ((getD (now w) 4 0 ≤ 4095) × (n < 65536)) ⌝ }
+    ensures { λ r. ⌜ r ≡ headOf (stateOf (now (w .entry))) n ⌝ }
+{
+    Head {
+        len: 16 + n,
+        kind: 1,
+        i: wide(w[I]) + 32768,
+        b: wide(w[B]) + 32768,
+        first: wide(w[FONT]),
+        second: wide(w[COLOUR]),
+        third: signed_amount(w[DIRECTION], w[ADJUSTMENT]),
+        fourth: wide(w[SPACE]),
+    }
+}
+
 // The record of a text that leaves I at a place, if there is room.
 fn record_text(t: &[u8], count: usize, area: &mut [u8], w: &mut [u32], i: usize) -> u32
     requires { ⌜ (length (now w) ≡ 12) × ((length (now area) ≡ 4096) × ((getD (now w) 4 0 ≤ 4095) × ((0 < length (now t)) × ((count < 65536) × (i < 4294967296))))) ⌝ }
@@ -97,17 +119,7 @@ fn record_text(t: &[u8], count: usize, area: &mut [u8], w: &mut [u32], i: usize)
     if 4096 < end {
         return 29;
     }
-    let h = Head {
-        len: 16 + count,
-        kind: 1,
-        i: wide(w[I]) + 32768,
-        b: wide(w[B]) + 32768,
-        first: wide(w[FONT]),
-        second: wide(w[COLOUR]),
-        third: signed_amount(w[DIRECTION], w[ADJUSTMENT]),
-        fourth: wide(w[SPACE]),
-    };
-    put_head(area, used, h);
+    put_head(area, used, text_head(&w[..], count));
     draw(area, used + 16, t, count);
     w[I] = i as u32;
     w[USED] = end as u32;
@@ -142,4 +154,52 @@ pub fn show_text(
         return 0;
     }
     record_text(t, count, area, w, r.at)
+}
+
+// The record of plain text that leaves I at a place, if there is room.
+fn record_plain(t: &[u8], area: &mut [u8], w: &mut [u32], i: usize) -> u32
+    requires { ⌜ (length (now w) ≡ 12) × ((length (now area) ≡ 4096) × ((getD (now w) 4 0 ≤ 4095) × ((length (now t) < 65536) × (i < 4294967296)))) ⌝ }
+    ensures { λ r. ⌜ Does (λ s. advanced s i (now (t .entry))) r w area ⌝ }
+{
+    let used = wide(w[USED]);
+    let end = used + 16 + t.len();
+    if 4096 < end {
+        return 29;
+    }
+    put_head(area, used, text_head(&w[..], t.len()));
+    store_text(area, used + 16, t);
+    w[I] = i as u32;
+    w[USED] = end as u32;
+    0
+}
+
+// Whether text that ends at a place is plain: nothing hidden, nothing subtracted, and all of it on the sheet.
+fn is_plain(w: &[u32], size_i: u32, size_b: u32, end: usize) -> bool
+    requires { ⌜ length (now w) ≡ 12 ⌝ }
+    ensures { λ r. ⌜ (r ≡ true → Plain (stateOf (now (w .entry))) «size_i» «size_b» end) ⌝ }
+{
+    let shown = both(w[SUPPRESSION] == 0, within(w[B], 0, size_b));
+    let level = both(w[DIRECTION] == 0, 32768 <= w[I]);
+    let most = lesser(LAST, 32768 + wide(size_i) + wide(w[ADJUSTMENT]));
+    both(both(shown, level), end <= most)
+}
+
+// A text as it is, from its first character to its last. Where it is plain, its end decides for all of them.
+pub fn show_plain(t: &[u8], widths: &[u16], area: &mut [u8], d: Descriptor, w: &mut [u32]) -> u32
+    requires { ⌜ Ready (now widths) (now area) (now w) × (length (now t) < 65536) ⌝ }
+    ensures { λ r. ⌜ Does (λ s. roomed s (placeText (now (widths .entry)) d s (now (t .entry)))) r w area ⌝ }
+{
+    let n = t.len();
+    if n == 0 {
+        return 0;
+    }
+    let from = 256 * wide(w[FONT]);
+    let to = from + 256;
+    let row = &widths[from..to];
+    let space = or_default(ONES, w[SPACE], row[0x40] as u32);
+    let end = plain_end(t, row, wide(space), wide(w[I]), wide(w[ADJUSTMENT]));
+    if is_plain(&w[..], d.size.i, d.size.b, end) {
+        return record_plain(t, area, w, end);
+    }
+    show_text(&t[..n], n, widths, area, d, w)
 }

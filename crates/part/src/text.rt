@@ -80,19 +80,27 @@ fn row_sum(t: &[u8], from: usize, row: &[u16]) -> usize
     sum
 }
 
-// Of all characters, four at a time.
-fn row_fours(t: &[u8], row: &[u16]) -> usize
+// Of four characters from number `k` on.
+fn four_widths(t: &[u8], k: usize, row: &[u16]) -> usize
+    requires { ⌜ (length (now row) ≡ 256) × ((length (now t) < 65536) × (k + 3 < length (now t))) ⌝ }
+    ensures { λ r. ⌜ (r + rowWidths (now (row .entry)) (drop (k + 4) (now (t .entry))) ≡ rowWidths (now (row .entry)) (drop k (now (t .entry)))) × (r ≤ 65536 * 4) ⌝ }
+{
+    let low = own_width(row, t[k]) + own_width(row, t[k + 1]);
+    let high = own_width(row, t[k + 2]) + own_width(row, t[k + 3]);
+    low + high
+}
+
+// Of all characters, eight at a time.
+fn row_eights(t: &[u8], row: &[u16]) -> usize
     requires { ⌜ (length (now row) ≡ 256) × (length (now t) < 65536) ⌝ }
     ensures { λ r. ⌜ (r ≡ rowWidths (now (row .entry)) (now (t .entry))) × (r ≤ 65536 * length (now (t .entry))) ⌝ }
 {
     let mut sum: usize = 0;
     let mut k: usize = 0;
-    while 3 < t.len() - k {
-        sum += own_width(row, t[k]);
-        sum += own_width(row, t[k + 1]);
-        sum += own_width(row, t[k + 2]);
-        sum += own_width(row, t[k + 3]);
-        k += 4;
+    while 7 < t.len() - k {
+        sum += four_widths(t, k, row);
+        sum += four_widths(t, k + 4, row);
+        k += 8;
     }
     sum + row_sum(t, k, row)
 }
@@ -109,7 +117,7 @@ fn row_total(t: &[u8], row: &[u16]) -> usize
     if is_fixed(row) {
         return n * own_width(row, 0);
     }
-    row_fours(t, row)
+    row_eights(t, row)
 }
 
 // How many of some characters are X'40'.
@@ -126,18 +134,26 @@ fn spaces(t: &[u8]) -> u32
     n
 }
 
-// The widths of some characters together. X'40' is counted apart, so that no character is tested where it has the row's width.
-fn total(t: &[u8], row: &[u16], space: usize) -> usize
+// The widths of some characters together, from those in the row alone. X'40' is counted apart, so that no character is tested where it has the row's width.
+fn spaced(t: &[u8], row: &[u16], sum: usize, space: usize) -> usize
     requires { ⌜ (length (now row) ≡ 256) × ((space < 4294967296) × (length (now t) < 65536)) ⌝ }
+    requires { ⌜ (sum ≡ rowWidths (now row) (now t)) × (sum ≤ 65536 * length (now t)) ⌝ }
     ensures { λ r. ⌜ (r ≡ widthsOf (now (row .entry)) space (now (t .entry))) × (r ≤ 4294967296 * length (now (t .entry))) ⌝ }
 {
-    let sum = row_total(t, row);
     let own = row[0x40] as usize;
     if space == own {
         return sum;
     }
     let n = spaces(t) as usize;
     sum + n * space - n * own
+}
+
+// The same, from the characters.
+fn total(t: &[u8], row: &[u16], space: usize) -> usize
+    requires { ⌜ (length (now row) ≡ 256) × ((space < 4294967296) × (length (now t) < 65536)) ⌝ }
+    ensures { λ r. ⌜ (r ≡ widthsOf (now (row .entry)) space (now (t .entry))) × (r ≤ 4294967296 * length (now (t .entry))) ⌝ }
+{
+    spaced(t, row, row_total(t, row), space)
 }
 
 // The same, one after the other: for what is left of a round.
@@ -293,4 +309,27 @@ pub fn present(t: &[u8], count: usize, row: &[u16], l: Line, start: usize) -> Re
         return present_back(t, whole, row, l, start);
     }
     walk_cycle(t, count, row, l, start)
+}
+
+// The widths of plain text in the font's row alone; a sum of its own, so that it becomes part of the element's loop.
+fn plain_sum(t: &[u8], row: &[u16]) -> usize
+    requires { ⌜ (length (now row) ≡ 256) × (length (now t) < 65536) ⌝ }
+    ensures { λ r. ⌜ (r ≡ rowWidths (now (row .entry)) (now (t .entry))) × (r ≤ 65536 * length (now (t .entry))) ⌝ }
+{
+    let n = t.len();
+    if 64 <= n {
+        if is_fixed(row) {
+            return n * own_width(row, 0);
+        }
+    }
+    row_eights(t, row)
+}
+
+// Where plain text leaves I.
+pub fn plain_end(t: &[u8], row: &[u16], space: usize, start: usize, plus: usize) -> usize
+    requires { ⌜ (length (now row) ≡ 256) × ((space < 4294967296) × ((length (now t) < 65536) × ((start < 4294967296) × (plus < 4294967296)))) ⌝ }
+    ensures { λ r. ⌜ r ≡ start + widthsOf (now (row .entry)) space (now (t .entry)) + length (now (t .entry)) * plus ⌝ }
+{
+    let sum = spaced(t, row, plain_sum(t, row), space);
+    start + sum + t.len() * plus
 }

@@ -1,7 +1,7 @@
 -- `part::perform::perform` meets its contract: a law for each type says what its sequence comes to, behind its row's test.
 -- Assumes nothing.
 use Prim.Native.Nat.{_+_}
-use Rattle.part.proofs.Arms.{plainly, passing, sizing, unsized, arm-AMI, arm-AMB, arm-RMI, arm-RMB, arm-BLN, arm-SIM, arm-SBI, arm-SIA, arm-SVI, arm-SCFL, arm-STC, arm-STO, arm-BSU, arm-ESU, arm-rules, arm-TRN, arm-RPS, arm-NOP}
+use Rattle.part.proofs.Arms.{plainly, passing, sizing, unsized, arm-AMI, arm-AMB, arm-RMI, arm-RMB, arm-BLN, arm-SIM, arm-SBI, arm-SIA, arm-SVI, arm-SCFL, arm-STC, arm-STO, arm-BSU, arm-ESU, arm-rules, arm-RPS, arm-NOP}
 use Rattle.part.proofs.Rows.{no-row}
 use Rattle.part.specs.Code.{stateOf}
 use Rattle.part.specs.Types.{types, all, _takes_}
@@ -67,17 +67,11 @@ mark-of-requires c κs = search needs
 try-rule-requires : tie.Need-try-rule-requires
 try-rule-requires c κs = search needs
 
-suits-requires-3 : tie.Need-suits-requires-3
-suits-requires-3 c κs = search needs
-
-show-text-requires : tie.Need-show-text-requires
-show-text-requires c κs = search needs
-
 repeat-string-requires : tie.Need-repeat-string-requires
 repeat-string-requires c κs = search needs
 
-suits-requires-4 : tie.Need-suits-requires-4
-suits-requires-4 c κs = search needs
+suits-requires-3 : tie.Need-suits-requires-3
+suits-requires-3 c κs = search needs
 
 same-length : tie.Need-same-length
 same-length c = search needs
@@ -284,13 +278,11 @@ same-length-17 c = search needs
 
 returns-18 : tie.Need-returns-18
 returns-18 c =
-    let st = c .before .before .before .before .before .before .before .before .before .before .before .before .before .before in
+    let st = c .before .before .before .before .before .before .before .before .before .before .before .before in
     let a = st .args in
     let w = now (a .w) in
     let p = now (a .p) in
-    let fit = sym (c .before .before .before .before .before .before .before .before .suits3 .ensures) ∙ c .before .before .before .before .before .before .before .if3 .taken in
-    rw (c .before .before .before .before .before .before .before .before .before .match .keys16, arm-TRN (now (a .widths)) (a .d) w p (st .pre .0 .twelve))
-    (sizing (all 2 255 takes (2 + length p)) _ _ _ _ _ fit (c .before .before .before .before .show-text .ensures))
+    rw (c .before .before .before .before .before .before .before .match .keys16, arm-RPS (now (a .widths)) (a .d) w p (st .pre .0 .twelve)) (c .before .before .before .before .repeat-string .ensures)
 
 returns-19 : tie.Need-returns-19
 returns-19 c =
@@ -298,44 +290,22 @@ returns-19 c =
     let a = st .args in
     let w = now (a .w) in
     let p = now (a .p) in
-    rw (c .before .before .match .keys16, arm-TRN (now (a .widths)) (a .d) w p (st .pre .0 .twelve)) (unsized (all 2 255 takes (2 + length p)) _ (stateOf w) _ _ (sym (c .before .suits3 .ensures) ∙ c .if3 .left))
-
-same-length-18 : tie.Need-same-length-18
-same-length-18 c = search needs
-
-same-length-19 : tie.Need-same-length-19
-same-length-19 c = search needs
+    let fit = sym (c .before .suits3 .ensures) ∙ c .if3 .taken in
+    rw (c .before .before .match .keys17, arm-NOP (now (a .widths)) (a .d) w p (st .pre .0 .twelve)) (sizing (all 2 255 takes (2 + length p)) _ _ _ _ _ fit (refl, refl))
 
 returns-20 : tie.Need-returns-20
 returns-20 c =
-    let st = c .before .before .before .before .before .before .before .before .before .before .before .before in
+    let st = c .before .before .before .before .before .before .before in
     let a = st .args in
     let w = now (a .w) in
     let p = now (a .p) in
-    rw (c .before .before .before .before .before .before .before .match .keys17, arm-RPS (now (a .widths)) (a .d) w p (st .pre .0 .twelve)) (c .before .before .before .before .repeat-string .ensures)
+    rw (c .before .before .match .keys17, arm-NOP (now (a .widths)) (a .d) w p (st .pre .0 .twelve)) (unsized (all 2 255 takes (2 + length p)) _ (stateOf w) _ _ (sym (c .before .suits3 .ensures) ∙ c .if3 .left))
 
 returns-21 : tie.Need-returns-21
-returns-21 c =
-    let st = c .before .before .before .before .before .before .before in
-    let a = st .args in
-    let w = now (a .w) in
-    let p = now (a .p) in
-    let fit = sym (c .before .suits4 .ensures) ∙ c .if4 .taken in
-    rw (c .before .before .match .keys18, arm-NOP (now (a .widths)) (a .d) w p (st .pre .0 .twelve)) (sizing (all 2 255 takes (2 + length p)) _ _ _ _ _ fit (refl, refl))
-
-returns-22 : tie.Need-returns-22
-returns-22 c =
-    let st = c .before .before .before .before .before .before .before in
-    let a = st .args in
-    let w = now (a .w) in
-    let p = now (a .p) in
-    rw (c .before .before .match .keys18, arm-NOP (now (a .widths)) (a .d) w p (st .pre .0 .twelve)) (unsized (all 2 255 takes (2 + length p)) _ (stateOf w) _ _ (sym (c .before .suits4 .ensures) ∙ c .if4 .left))
-
-returns-23 : tie.Need-returns-23
 unfolding types
-returns-23 c =
+returns-21 c =
     let r = c .match .rest in
-    rw (no-row (c .before .before .before .before .before .args .function) (Unit {0}) types (((((r .0 .0 .0 .0, λ e. r .0 .0 .0 .1 (inl e)), λ e. r .0 .0 .0 .1 (inr e)), r .0 .0 .1), r .0 .1), r .1)) (refl, refl)
+    rw (no-row (c .before .before .before .before .before .args .function) (Unit {0}) types (((((r .0 .0 .0, λ e. r .0 .0 .1 (inl e)), λ e. r .0 .0 .1 (inr e)), c .before .before .before .before .before .pre .1 .1), r .0 .1), r .1)) (refl, refl)
 
 pub perform-spec : {M : Type 1} → statement M
 perform-spec =
@@ -359,10 +329,8 @@ perform-spec =
     try-end-requires
     mark-of-requires
     try-rule-requires
-    suits-requires-3
-    show-text-requires
     repeat-string-requires
-    suits-requires-4
+    suits-requires-3
     same-length
     returns
     same-length-2
@@ -399,9 +367,5 @@ perform-spec =
     same-length-17
     returns-18
     returns-19
-    same-length-18
-    same-length-19
     returns-20
-    returns-21
-    returns-22
-    returns-23)
+    returns-21)

@@ -5,8 +5,10 @@ use mathlib.Core.Logic.{⊎-elim}
 use borrow.Author.Needs.{needs}
 use borrow.Author.Tests.{eq-eqb, ne-eqb}
 use denote.Ref.{now}
+use native.Mathlib.Nat.{sub-zero}
+use native.Mathlib.Omega.{arith}
 use lib.ListN.{getD, List·getD-eq-default}
-use Rattle.part.specs.Reading.{element}
+use Rattle.part.specs.Reading.{stretch, element}
 use Rattle.part.proofs.Bytes.{there}
 use Rattle.part.proofs.Reading.{stretch-fits, stretch-some}
 use Rattle.part.proofs.reader.read_element.Statement.{statement}
@@ -31,7 +33,7 @@ returns-2 c =
     let i = c .before in
     let bytes = now (i .before .before .before .before .args .bytes) in
     let text = ne-eqb _ _ (i .if2 .taken) in
-    rw (c .run-length .ensures, ne-eqb _ _ (i .before .before .if1 .left), text) (refl, (stretch-some bytes (search needs) text, stretch-fits bytes))
+    rw (c .run-length .ensures, ne-eqb _ _ (i .before .before .if1 .left), text, sub-zero (stretch bytes)) (refl, (omega arith, (stretch-some bytes (search needs) text, (stretch-fits bytes, omega arith))))
 
 shared-slice-read-if4 : tie.Need-shared-slice-read-if4
 shared-slice-read-if4 c = search needs

@@ -3,12 +3,15 @@
 use borrow.Author.Needs.{needs}
 use borrow.Author.Tests.{lt-leb}
 use denote.Ref.{now}
-use lib.ListN.{length}
-use mathlib.Core.Path.{_≡_, refl}
+use lib.ListN.{length, drop, getD, length-drop}
+use lib.Seq.{length-take-le}
+use mathlib.Core.Path.{_≡_, refl, sym, _∙_, ap}
 use native.Mathlib.Omega.{arith}
 use Prim.Native.Nat.{_+_, _-_}
-use Rattle.part.specs.Reading.{sequence}
-use Rattle.part.proofs.Rows.{too-short, whole, body-cut}
+use Rattle.part.specs.Reading.{between, sequence}
+use Rattle.part.specs.Types.{function}
+use Rattle.part.specs.declared.types.Kind.{Kind}
+use Rattle.part.proofs.Rows.{too-short, whole, body-cut, text-row}
 use Rattle.part.proofs.Verdicts.{pointing}
 use Rattle.part.proofs.reader.read_sequence.Statement.{statement}
 use Rattle.part.proofs.reader.read_sequence.Tie as tie
@@ -72,10 +75,25 @@ cast-chains c = search needs
 
 returns-4 : tie.Need-returns-4
 returns-4 c =
-    let a = c .before .before .before .before .before .before .before .before .args in
-    let long = c .before .before .before .before .if2 .left in
+    let a = c .before .before .before .before .before .before .before .before .before .before .args in
+    let bytes = now (a .bytes) in
+    let long = c .before .before .before .before .before .before .if2 .left in
+    let ends = c .before .before .before .if3 .left in
+    let kind = c .before .before .before .before .split .ensures in
+    let its : function (getD bytes (a .at + 1) 0) ≡ 0xDA = sym (ap (λ (k : Kind). k .function) kind) ∙ c .if4 .taken in
+    let size = length-take-le (a .at + getD bytes (a .at) 0 - (a .at + 2)) (drop (a .at + 2) bytes) (omega (arith, length-drop (a .at + 2) bytes, ends)) in
+    let known = c .before .before .before .before .before .before .before .shared-slice-known2 .given (a .at) in
+    rw (whole (a .at) bytes (c .before .before .before .before .before .before .before .before .if1 .left) long ends, kind, its, text-row (a .at) (between bytes (a .at + 2) (a .at + getD bytes (a .at) 0)) (omega (arith, size, known)))
+    (refl, (search (needs, long), (search (needs, long), (search needs, search needs))))
+
+returns-5 : tie.Need-returns-5
+returns-5 c =
+    let a = c .before .before .before .before .before .before .before .before .before .before .args in
+    let long = c .before .before .before .before .before .before .if2 .left in
+    let kind = c .before .before .before .before .split .ensures in
+    let other = c .if4 .left in
     let at : a .at + 2 - 2 ≡ a .at = omega arith in
-    rw (at, whole (a .at) (now (a .bytes)) (c .before .before .before .before .before .before .if1 .left) long (c .before .if3 .left), c .before .before .split .ensures) (refl, (search (needs, long), (search (needs, long), (search needs, (search needs, (omega arith, search needs))))))
+    rw (at, whole (a .at) (now (a .bytes)) (c .before .before .before .before .before .before .before .before .if1 .left) long (c .before .before .before .if3 .left), kind) (refl, (search (needs, long), (search (needs, long), (search needs, (search needs, ((omega arith, search needs), λ e. other (ap (λ (k : Kind). k .function) kind ∙ e)))))))
 
 pub read-sequence-spec : {M : Type 1} → statement M
 read-sequence-spec =
@@ -97,4 +115,5 @@ read-sequence-spec =
     misfit-requires
     returns-3
     cast-chains
-    returns-4)
+    returns-4
+    returns-5)

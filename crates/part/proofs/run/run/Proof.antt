@@ -3,7 +3,7 @@
 use Prim.Native.Nat.{_-_}
 use Rattle.part.proofs.Bytes.{tail-of}
 use Rattle.part.proofs.Nearer.{done-nearer, inked-nearer}
-use Rattle.part.proofs.Turns.{Here, start, refused, faulted, faulted-nearer, turn, ended, ran-fault, not-nought, run-step, sequence-step, text-placed}
+use Rattle.part.proofs.Turns.{Here, start, refused, faulted, faulted-nearer, turn, ended, ran-fault, not-nought, text-step, sequence-step, text-placed}
 use Rattle.part.specs.Code.{nearer, stateOf, stateAfter, inked, performed}
 use Rattle.part.specs.Elements.{Text}
 use Rattle.part.specs.Part.{placed}
@@ -107,10 +107,10 @@ returns c =
 enum-known-found-2 : tie.Need-enum-known-found-2 Inv-loop μ-loop
 enum-known-found-2 c = search needs
 
-slice-aggregate-show-text : tie.Need-slice-aggregate-show-text Inv-loop μ-loop
-slice-aggregate-show-text c =
-    let l = c .before .before .before .before .before .before .before .before in
-    let st = c .before .before .before .before .before .before .before .before .before .before .before .before .before in
+sub-show-plain : tie.Need-sub-show-plain Inv-loop μ-loop
+sub-show-plain c =
+    let l = c .before .before .before .before .before .before .before in
+    let st = c .before .before .before .before .before .before .before .before .before .before .before .before in
     let a = st .args in
     let part = now (a .part) in
     let w = l .loop .w in
@@ -118,14 +118,48 @@ slice-aggregate-show-text c =
     let here = l .loop .inv in
     let rest = take (length part - at) (drop at part) in
     let tail = tail-of part at in
-    let found = c .before .before .found2 .given .1 in
-    let read = rw found at (c .before .before .before .before .read-element .ensures .0) in
-    let inside = rw found at (c .before .before .before .before .read-element .ensures .1) in
+    let found = c .before .found2 .given .1 in
+    let read = rw found at (c .before .before .before .read-element .ensures .0) in
+    let inside = rw found at (c .before .before .before .read-element .ensures .1) in
     let z : length rest ≡ length part - at = ap length tail ∙ length-drop at part in
-    sym (length-take-le _ rest (inside .1))
+    omega (arith, inside .0)
 
-show-text-requires : tie.Need-show-text-requires Inv-loop μ-loop
-show-text-requires c κs =
+part-show-plain-start : tie.Need-part-show-plain-start Inv-loop μ-loop
+part-show-plain-start c =
+    let l = c .before .before .before .before .before .before .before in
+    let st = c .before .before .before .before .before .before .before .before .before .before .before .before in
+    let a = st .args in
+    let part = now (a .part) in
+    let w = l .loop .w in
+    let at = l .loop .at in
+    let here = l .loop .inv in
+    let rest = take (length part - at) (drop at part) in
+    let tail = tail-of part at in
+    let found = c .before .found2 .given .1 in
+    let read = rw found at (c .before .before .before .read-element .ensures .0) in
+    let inside = rw found at (c .before .before .before .read-element .ensures .1) in
+    let z : length rest ≡ length part - at = ap length tail ∙ length-drop at part in
+    inside .0
+
+part-show-plain-end : tie.Need-part-show-plain-end Inv-loop μ-loop
+part-show-plain-end c =
+    let l = c .before .before .before .before .before .before .before in
+    let st = c .before .before .before .before .before .before .before .before .before .before .before .before in
+    let a = st .args in
+    let part = now (a .part) in
+    let w = l .loop .w in
+    let at = l .loop .at in
+    let here = l .loop .inv in
+    let rest = take (length part - at) (drop at part) in
+    let tail = tail-of part at in
+    let found = c .before .found2 .given .1 in
+    let read = rw found at (c .before .before .before .read-element .ensures .0) in
+    let inside = rw found at (c .before .before .before .read-element .ensures .1) in
+    let z : length rest ≡ length part - at = ap length tail ∙ length-drop at part in
+    inside .1 .1 .0
+
+show-plain-requires : tie.Need-show-plain-requires Inv-loop μ-loop
+show-plain-requires c κs =
     let l = c .before .before .before .before .before .before .before .before .before .before in
     let st = c .before .before .before .before .before .before .before .before .before .before .before .before .before .before .before in
     let a = st .args in
@@ -139,8 +173,9 @@ show-text-requires c κs =
     let read = rw found at (c .before .before .before .before .before .before .read-element .ensures .0) in
     let inside = rw found at (c .before .before .before .before .before .before .read-element .ensures .1) in
     let z : length rest ≡ length part - at = ap length tail ∙ length-drop at part in
-    let n = length-take-le _ rest (inside .1) in
-    (here .ready, ((λ _. omega (arith, n, inside .0)), (omega (arith, n, inside .1, z, st .pre .1 .1), omega (arith, inside .1, z, st .pre .1 .1))))
+    let x = c .before .before .before .before .found2 .given .0 in
+    let n = length-take-le (x .1 .0 - x .0) (drop (x .0) rest) (omega (arith, length-drop (x .0) rest, inside .1 .1 .0)) in
+    (here .ready, omega (arith, n, inside .1 .1 .0, z, st .pre .1 .1))
 
 same-length-3 : tie.Need-same-length-3 Inv-loop μ-loop
 same-length-3 c = search needs
@@ -163,16 +198,15 @@ returns-2 c =
     let read = rw found at (c .before .before .before .before .before .before .before .before .before .before .before .before .read-element .ensures .0) in
     let inside = rw found at (c .before .before .before .before .before .before .before .before .before .before .before .before .read-element .ensures .1) in
     let z : length rest ≡ length part - at = ap length tail ∙ length-drop at part in
-    let size = c .before .before .before .before .before .before .before .before .before .before .found2 .given .0 .0 in
-    let n = length-take-le size rest (inside .1) in
+    let x = c .before .before .before .before .before .before .before .before .before .before .found2 .given .0 in
     let s = stateOf w in
     let widths = now (a .widths) in
-    let step = run-step widths (a .d) s (getD w 10 0) (drop at part) size (rw tail at read) in
-    let e = text-placed widths (a .d) s (take size (drop at part)) size (sym (rw tail at n)) in
-    let told = rw tail at (c .before .before .before .before .before .show-text .ensures) in
+    let t = between (drop at part) (x .0) (x .1 .0) in
+    let step = text-step widths (a .d) s (getD w 10 0) (drop at part) t (x .1 .0) (x .1 .1 .0) (rw tail at read) in
+    let e = text-placed widths (a .d) s t in
+    let told = rw tail at (c .before .before .before .before .before .show-plain .ensures) in
     let state = told .0 ∙ ap stateAfter e in
-    let ink = told .1 ∙ ap (inked (l .loop .area) (getD w 11 0)) e in
-    (ran-fault _ _ _ _ _ at (l .loop .count) _ _ (c .if1 .taken) (faulted (now (a .widths)) (a .d) part (now (a .w)) (now (a .area)) (l .loop .area) w at (l .loop .count) here (c .before .before .before .before .before .before .before .before .before .before .before .before .before .before .before .loop-test .taken) _ 0 _ _ _ step (c .if1 .taken) state), (omega (arith, here .within, st .pre .1 .1), omega (arith, here .within, here .fewer, st .pre .1 .1)))
+    (ran-fault _ _ _ _ _ at (l .loop .count) _ _ (c .if1 .taken) (faulted widths (a .d) part (now (a .w)) (now (a .area)) (l .loop .area) w at (l .loop .count) here (c .before .before .before .before .before .before .before .before .before .before .before .before .before .before .before .loop-test .taken) _ (x .1 .1 .0) _ _ _ step (c .if1 .taken) state), (omega (arith, here .within, st .pre .1 .1), omega (arith, here .within, here .fewer, st .pre .1 .1)))
 
 slice-write-w : tie.Need-slice-write-w Inv-loop μ-loop
 slice-write-w c = search needs
@@ -192,7 +226,7 @@ add-at c =
     let read = rw found at (c .before .before .before .before .before .before .before .before .before .before .before .before .read-element .ensures .0) in
     let inside = rw found at (c .before .before .before .before .before .before .before .before .before .before .before .before .read-element .ensures .1) in
     let z : length rest ≡ length part - at = ap length tail ∙ length-drop at part in
-    omega (arith, inside .1, z, here .within, st .pre .1 .1)
+    omega (arith, inside .1 .1 .0, z, here .within, st .pre .1 .1)
 
 add-count : tie.Need-add-count Inv-loop μ-loop
 add-count c =
@@ -226,7 +260,7 @@ loop-less c =
     let read = rw found at (c .before .before .before .before .before .before .before .before .before .before .before .before .read-element .ensures .0) in
     let inside = rw found at (c .before .before .before .before .before .before .before .before .before .before .before .before .read-element .ensures .1) in
     let z : length rest ≡ length part - at = ap length tail ∙ length-drop at part in
-    omega (arith, inside .0, inside .1, z, c .before .before .before .before .before .before .before .before .before .before .before .before .before .before .before .loop-test .taken)
+    omega (arith, inside .1 .0, inside .1 .1 .0, z, (c .before .before .before .before .before .before .before .before .before .before .before .before .before .before .before .loop-test .taken))
 
 loop-again : tie.Need-loop-again Inv-loop μ-loop
 loop-again c =
@@ -243,16 +277,16 @@ loop-again c =
     let read = rw found at (c .before .before .before .before .before .before .before .before .before .before .before .before .read-element .ensures .0) in
     let inside = rw found at (c .before .before .before .before .before .before .before .before .before .before .before .before .read-element .ensures .1) in
     let z : length rest ≡ length part - at = ap length tail ∙ length-drop at part in
-    let size = c .before .before .before .before .before .before .before .before .before .before .found2 .given .0 .0 in
-    let n = length-take-le size rest (inside .1) in
+    let x = c .before .before .before .before .before .before .before .before .before .before .found2 .given .0 in
     let s = stateOf w in
     let widths = now (a .widths) in
-    let step = run-step widths (a .d) s (getD w 10 0) (drop at part) size (rw tail at read) in
-    let e = text-placed widths (a .d) s (take size (drop at part)) size (sym (rw tail at n)) in
-    let told = rw tail at (c .before .before .before .before .before .show-text .ensures) in
+    let t = between (drop at part) (x .0) (x .1 .0) in
+    let step = text-step widths (a .d) s (getD w 10 0) (drop at part) t (x .1 .0) (x .1 .1 .0) (rw tail at read) in
+    let e = text-placed widths (a .d) s t in
+    let told = rw tail at (c .before .before .before .before .before .show-plain .ensures) in
     let state = told .0 ∙ ap stateAfter e in
     let ink = told .1 ∙ ap (inked (l .loop .area) (getD w 11 0)) e in
-    turn (now (a .widths)) (a .d) part (now (a .w)) (now (a .area)) (l .loop .area) w at (l .loop .count) here (c .before .before .before .before .before .before .before .before .before .before .before .before .before .before .before .loop-test .taken) size 0 (placed widths (a .d) s (Text (take size (drop at part)))) (c .before .before .before .before .before .show-text .last .1 .1 .1 .1 .1 .0) (c .before .before .before .before .before .show-text .last .1 .1 .1 .0) step (st .pre .1 .0) (omega (arith, here .ready .twelve)) (omega (arith, here .ready .whole)) (rw (c .if1 .left) at state) ink
+    turn widths (a .d) part (now (a .w)) (now (a .area)) (l .loop .area) w at (l .loop .count) here (c .before .before .before .before .before .before .before .before .before .before .before .before .before .before .before .loop-test .taken) (x .1 .0) (x .1 .1 .0) (placed widths (a .d) s (Text t)) (c .before .before .before .before .before .show-plain .last .1 .1 .1 .1 .0) (c .before .before .before .before .before .show-plain .last .1 .1 .0) step (st .pre .1 .0) (omega (arith, here .ready .twelve)) (omega (arith, here .ready .whole)) (rw (c .if1 .left) at state) ink
 
 enum-known-found-3 : tie.Need-enum-known-found-3 Inv-loop μ-loop
 enum-known-found-3 c = search needs
@@ -325,7 +359,7 @@ perform-requires c κs =
     let z : length rest ≡ length part - at = ap length tail ∙ length-drop at part in
     let x = c .before .before .before .before .found3 .given .0 in
     let n = length-take-le (x .1 .1 .0 - x .1 .0) (drop (x .1 .0) rest) (omega (arith, length-drop (x .1 .0) rest, inside .1 .1 .0)) in
-    (here .ready, omega (arith, n, inside .1 .1 .0, z, st .pre .1 .1))
+    (here .ready, (omega (arith, n, inside .1 .1 .0, z, st .pre .1 .1), inside .1 .1 .1 .1 .1))
 
 same-length-5 : tie.Need-same-length-5 Inv-loop μ-loop
 same-length-5 c = search needs
@@ -337,7 +371,7 @@ nearer-requires : tie.Need-nearer-requires Inv-loop μ-loop
 nearer-requires c κs =
     let found = c .before .before .before .before .before .before .before .before .before .before .found3 .given .1 in
     let inside = rw found at (c .before .before .before .before .before .before .before .before .before .before .before .before .read-element .ensures .1) in
-    inside .1 .1 .1 .1
+    inside .1 .1 .1 .1 .0
 
 returns-3 : tie.Need-returns-3 Inv-loop μ-loop
 returns-3 c =
@@ -357,7 +391,7 @@ returns-3 c =
     let x = c .before .before .before .before .before .before .before .before .before .before .before .found3 .given .0 in
     let p = between (drop at part) (x .1 .0) (x .1 .1 .0) in
     let s = stateOf w in
-    let begins = inside .1 .1 .1 .1 in
+    let begins = inside .1 .1 .1 .1 .0 in
     let step = sequence-step (now (a .widths)) (a .d) s (getD w 10 0) (drop at part) (x .1 .0) (x .0) (x .1 .1 .0) (x .1 .1 .1 .0) p (begins .0) (begins .1) (rw tail at read) in
     let done = rw tail at (c .before .before .before .before .before .before .perform .ensures) in
     let stop = faulted-nearer (now (a .widths)) (a .d) part (now (a .w)) (now (a .area)) (l .loop .area) w at (l .loop .count) here (c .before .before .before .before .before .before .before .before .before .before .before .before .before .before .before .before .loop-test .taken) (4 - x .1 .0) (x .1 .1 .0) (x .1 .1 .1 .0) (performed (now (a .widths)) (a .d) s (x .0) p) _ _ _ step (c .before .if2 .taken) (done .0) (c .nearer .ensures) in
@@ -435,7 +469,7 @@ loop-again-2 c =
     let x = c .before .before .before .before .before .before .before .before .before .before .found3 .given .0 in
     let p = between (drop at part) (x .1 .0) (x .1 .1 .0) in
     let s = stateOf w in
-    let begins = inside .1 .1 .1 .1 in
+    let begins = inside .1 .1 .1 .1 .0 in
     let by = 4 - x .1 .0 in
     let q = performed (now (a .widths)) (a .d) s (x .0) p in
     let step = sequence-step (now (a .widths)) (a .d) s (getD w 10 0) (drop at part) (x .1 .0) (x .0) (x .1 .1 .0) (x .1 .1 .1 .0) p (begins .0) (begins .1) (rw tail at read) in
@@ -477,8 +511,10 @@ run-spec =
     same-length-2
     returns
     enum-known-found-2
-    slice-aggregate-show-text
-    show-text-requires
+    sub-show-plain
+    part-show-plain-start
+    part-show-plain-end
+    show-plain-requires
     same-length-3
     same-length-4
     returns-2

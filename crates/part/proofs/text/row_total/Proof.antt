@@ -34,8 +34,8 @@ returns-2 c =
     let w : c .own-width .result ≤ 65536 = omega (arith, one .1) in
     (ap (λ n. length t * n) (one .0) ∙ sym (fixed-sum (now (a .row)) (c .before .before .is-fixed .ensures (c .before .if2 .taken)) t (λ k. omega (arith, c .before .before .before .before .before .shared-slice-known .given k))), omega (arith, mul-le-mul-left (length t) w))
 
-row-fours-requires : tie.Need-row-fours-requires
-row-fours-requires c κs = search needs
+row-eights-requires : tie.Need-row-eights-requires
+row-eights-requires c κs = search needs
 
 returns-3 : tie.Need-returns-3
 returns-3 c = search needs
@@ -50,5 +50,5 @@ row-total-spec =
     own-width-requires
     mul-result
     returns-2
-    row-fours-requires
+    row-eights-requires
     returns-3)

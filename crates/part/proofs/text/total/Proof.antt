@@ -1,126 +1,17 @@
--- `part::text::total` meets its contract: each X'40' takes the line's width for the row's.
+-- `part::text::total` meets its contract: the row's widths, and X'40' apart.
 -- Assumes nothing.
-use Prim.Native.Nat.{_+_, _*_, _-_}
-use Rattle.part.proofs.Lines.{spaces-apart, product-fits, sum-bound, width-most}
-use Rattle.part.specs.Code.{widthIn, spacesIn, widthsOf}
 use borrow.Author.Needs.{needs}
-use denote.Ref.{now}
-use lib.ListN.{getD}
-use mathlib.Core.Path.{_≡_, ap}
-use native.Mathlib.Nat.{le-of-lt}
-use native.Mathlib.Omega.{arith}
 use Rattle.part.proofs.text.total.Statement.{statement}
 use Rattle.part.proofs.text.total.Tie as tie
 
 row-total-requires : tie.Need-row-total-requires
 row-total-requires c κs = search needs
 
-shared-slice-read-own : tie.Need-shared-slice-read-own
-shared-slice-read-own c = search needs
-
-cast-own : tie.Need-cast-own
-cast-own c = omega (arith, c .shared-slice-known3 .given 64)
+spaced-requires : tie.Need-spaced-requires
+spaced-requires c κs = search needs
 
 returns : tie.Need-returns
-returns c =
-    let st = c .before .before .before .before .before in
-    let a = st .args in
-    let row = now (a .row) in
-    let t = now (a .t) in
-    let apart = spaces-apart row (a .space) t in
-    let same = ap (λ v. spacesIn t * v) (c .if1 .taken) in
-    let bound = sum-bound (widthIn row (a .space)) 4294967296 (λ x. le-of-lt (width-most row (a .space) (λ k. omega (arith, c .before .shared-slice-known3 .given k)) (st .pre .1 .0) x)) t in
-    (omega (arith, c .before .before .row-total .ensures .0), omega (arith, c .before .before .row-total .ensures .0))
-
-spaces-requires : tie.Need-spaces-requires
-spaces-requires c κs = search needs
-
-cast-n : tie.Need-cast-n
-cast-n c = search needs
-
-mul-result : tie.Need-mul-result
-mul-result c =
-    let a = c .before .before .before .before .before .before .args in
-    let row = now (a .row) in
-    let t = now (a .t) in
-    let apart = spaces-apart row (a .space) t in
-    let all = c .before .before .before .row-total .ensures .0 in
-    let n = c .spaces .ensures in
-    let own = c .before .before .shared-slice-known3 .given 64 in
-    let p = product-fits (c .spaces .result) (a .space) (omega arith) (c .before .before .before .before .before .before .pre .1 .0) in
-    let q = product-fits (c .spaces .result) (getD row 64 0) (omega arith) (omega arith) in
-    omega arith
-
-add-result : tie.Need-add-result
-add-result c =
-    let a = c .before .before .before .before .before .before .args in
-    let row = now (a .row) in
-    let t = now (a .t) in
-    let apart = spaces-apart row (a .space) t in
-    let all = c .before .before .before .row-total .ensures .0 in
-    let n = c .spaces .ensures in
-    let own = c .before .before .shared-slice-known3 .given 64 in
-    let p = product-fits (c .spaces .result) (a .space) (omega arith) (c .before .before .before .before .before .before .pre .1 .0) in
-    let q = product-fits (c .spaces .result) (getD row 64 0) (omega arith) (omega arith) in
-    omega (arith, c .before .before .before .row-total .ensures .1)
-
-mul-result-2 : tie.Need-mul-result-2
-mul-result-2 c =
-    let a = c .before .before .before .before .before .before .args in
-    let row = now (a .row) in
-    let t = now (a .t) in
-    let apart = spaces-apart row (a .space) t in
-    let all = c .before .before .before .row-total .ensures .0 in
-    let n = c .spaces .ensures in
-    let own = c .before .before .shared-slice-known3 .given 64 in
-    let p = product-fits (c .spaces .result) (a .space) (omega arith) (c .before .before .before .before .before .before .pre .1 .0) in
-    let q = product-fits (c .spaces .result) (getD row 64 0) (omega arith) (omega arith) in
-    omega arith
-
-sub-result : tie.Need-sub-result
-sub-result c =
-    let a = c .before .before .before .before .before .before .args in
-    let row = now (a .row) in
-    let t = now (a .t) in
-    let apart = spaces-apart row (a .space) t in
-    let all = c .before .before .before .row-total .ensures .0 in
-    let n = c .spaces .ensures in
-    let own = c .before .before .shared-slice-known3 .given 64 in
-    let p = product-fits (c .spaces .result) (a .space) (omega arith) (c .before .before .before .before .before .before .pre .1 .0) in
-    let q = product-fits (c .spaces .result) (getD row 64 0) (omega arith) (omega arith) in
-    let e = ap (λ k. k * a .space) (n .0) in
-    let f = ap (λ k. k * getD row 64 0) (n .0) in
-    omega arith
-
-returns-2 : tie.Need-returns-2
-returns-2 c =
-    let a = c .before .before .before .before .before .before .args in
-    let row = now (a .row) in
-    let t = now (a .t) in
-    let apart = spaces-apart row (a .space) t in
-    let all = c .before .before .before .row-total .ensures .0 in
-    let n = c .spaces .ensures in
-    let own = c .before .before .shared-slice-known3 .given 64 in
-    let p = product-fits (c .spaces .result) (a .space) (omega arith) (c .before .before .before .before .before .before .pre .1 .0) in
-    let q = product-fits (c .spaces .result) (getD row 64 0) (omega arith) (omega arith) in
-    let e = ap (λ k. k * a .space) (n .0) in
-    let f = ap (λ k. k * getD row 64 0) (n .0) in
-    let bound = sum-bound (widthIn row (a .space)) 4294967296 (λ x. le-of-lt (width-most row (a .space) (λ k. omega (arith, c .before .before .shared-slice-known3 .given k)) (c .before .before .before .before .before .before .pre .1 .0) x)) t in
-    let same : c .before .before .before .row-total .result + c .spaces .result * a .space - c .spaces .result * getD row 64 0 ≡ widthsOf row (a .space) t = omega arith in
-    (same, rw same bound)
+returns c = search needs
 
 pub total-spec : {M : Type 1} → statement M
-total-spec =
-    tie.close
-    (tie.spec
-    row-total-requires
-    shared-slice-read-own
-    cast-own
-    returns
-    spaces-requires
-    cast-n
-    mul-result
-    add-result
-    mul-result-2
-    sub-result
-    returns-2)
+total-spec = tie.close (tie.spec row-total-requires spaced-requires returns)
