@@ -25,7 +25,7 @@ abbrev Legible : Piece → Type 0
 Legible p = Gives Ranged (OfCode Coded) (p .what)
 
 -- every piece of a part that is cut
-pieces-fit : (most at chain : ℕ) (rest : List ℕ) → Every Legible (cutFrom most at chain rest)
+pub pieces-fit : (most at chain : ℕ) (rest : List ℕ) → Every Legible (cutFrom most at chain rest)
 unfolding cutFrom
 pieces-fit zero at chain rest = none
 pieces-fit (suc most) at chain [] = none
@@ -41,7 +41,7 @@ unplaced bytes h code at q =
     let z = eqb-true at 0 (second-of (code ∈ 26 to 29) (eqb at 0) q) in
     rw z (atStart (first-of (code ∈ 26 to 29) (eqb at 0) q), λ some. some)
 
-unplaced-coded : (code at : ℕ) → Unplaced code at → Coded code
+pub unplaced-coded : (code at : ℕ) → Unplaced code at → Coded code
 unplaced-coded code at q = pointed-coded (unplaced [] 0 code at q .0)
 
 module _ (widths : List ℕ) (d : Descriptor) (dh : hold (descriptorFields d) ≡ true) where

@@ -26,6 +26,7 @@ pub mod Refusals
 pub mod Rooms
 pub mod Rows
 pub mod Runs
+pub mod Scratch
 pub mod Shown
 pub mod Signed
 pub mod Stores

@@ -13,13 +13,12 @@ use Rattle.part.specs.Ranges.{_to_, _∈_}
 use Rattle.part.specs.Elements.{Element}
 use Rattle.part.specs.Types.{Row, types, rowOf, _takes_}
 use Rattle.part.specs.Place.{Effect}
-use Rattle.part.specs.Part.{placed}
-use Rattle.part.specs.Code.{nearer, fitted, stateAfter, inked, performed}
+use Rattle.part.specs.Code.{nearer, fitted, stateAfter, inked, placedIn, performed}
 use Rattle.part.specs.declared.shapes.Descriptor.{Descriptor}
 use Rattle.part.specs.declared.shapes.State.{State}
 use Rattle.part.proofs.Checks.{Gives, value, refusal, second-of}
 use Rattle.part.proofs.Placing.{Unplaced}
-use Rattle.part.proofs.Parts.{placed-leaves}
+use Rattle.part.proofs.Scratch.{placedIn-leaves}
 
 -- what begins so much nearer
 starting : {A : Type 0} (by at left : ℕ) (m : Checked A) → by + left ≡ at → nearer by (startingAt at m) ≡ startingAt left m
@@ -50,13 +49,13 @@ stays by (fine a) (value p) = refl
 stays by (fault code at) (refusal q) = let z = eqb-true at 0 (second-of (code ∈ 26 to 29) (eqb at 0) q) in ap (fault code) (let e : at - by ≡ at = omega arith in e)
 
 -- a sequence whose LENGTH stands at an offset, from how it is performed
-pub performed-nearer : (widths : List ℕ) (d : Descriptor) (s : State) (function by left : ℕ) (p : List ℕ) → by + left ≡ 2 → nearer by (performed widths d s function p) ≡ (fitted left function p >>= placed widths d s)
-performed-nearer widths d s function by left p h =
-    subst (λ (at : ℕ). nearer by (fitted at function p >>= placed widths d s) ≡ (fitted left function p >>= placed widths d s)) h
-    (after by (fitted (by + left) function p) (placed widths d s) ∙ rw (fitted-nearer by left function p) (go (fitted left function p)))
+pub performed-nearer : (most : ℕ) (widths : List ℕ) (d : Descriptor) (s : State) (function by left : ℕ) (p : List ℕ) → by + left ≡ 2 → nearer by (performed most widths d s function p) ≡ (fitted left function p >>= placedIn most widths d s)
+performed-nearer most widths d s function by left p h =
+    subst (λ (at : ℕ). nearer by (fitted at function p >>= placedIn most widths d s) ≡ (fitted left function p >>= placedIn most widths d s)) h
+    (after by (fitted (by + left) function p) (placedIn most widths d s) ∙ rw (fitted-nearer by left function p) (go (fitted left function p)))
   where
-    go : (m : Checked Element) → (m >>= λ e. nearer by (placed widths d s e)) ≡ (m >>= placed widths d s)
-    go (fine e) = stays by (placed widths d s e) (placed-leaves widths d s e)
+    go : (m : Checked Element) → (m >>= λ e. nearer by (placedIn most widths d s e)) ≡ (m >>= placedIn most widths d s)
+    go (fine e) = stays by (placedIn most widths d s e) (placedIn-leaves most widths d s e)
     go (fault code at) = refl
 
 -- what is done stays as it is

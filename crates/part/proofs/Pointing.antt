@@ -12,7 +12,7 @@ use Rattle.part.specs.Ranges.{_to_, _∈_, hold, descriptorFields, state
 use Rattle.part.specs.Reading.{element, cutFrom, cut}
 use Rattle.part.specs.Records.{Item}
 use Rattle.part.specs.Place.{Effect, effect}
-use Rattle.part.specs.Part.{passed, elements, elementsBy, admitted, outcome, answered, interpreted}
+use Rattle.part.specs.Part.{passed, elements, elementsBy, admitted, outcome, answered, interpreted, placed}
 use Rattle.part.specs.Pointing.{lengthAt, Points, here, later, Pointing}
 use Rattle.part.specs.declared.shapes.Descriptor.{Descriptor}
 use Rattle.part.specs.declared.shapes.State.{State}
@@ -54,14 +54,14 @@ module _ (widths : List ℕ) (d : Descriptor) where
       go : ((at chain : ℕ) (rest : List ℕ) (s : State) → elements widths d s (cutFrom most at chain rest) ≡ fault code first → (k : ℕ) × (first ≡ at + k) × Points chain rest code k)
           → (m : Checked Effect) → (element chain (x ∷ xs) >>= passed widths d s) ≡ m → (k : ℕ) × (first ≡ at + k) × Points chain (x ∷ xs) code k
       go others (fault c j) e =
-          let is = sym (stops widths d most at chain (x ∷ xs) s c j some e) ∙ h in
+          let is = sym (stops (placed widths d) most at chain (x ∷ xs) s c j some e) ∙ h in
           let p = fault-of (element chain (x ∷ xs) >>= passed widths d s) (one-points s chain (x ∷ xs)) e in
           (j, sym (same-place is), rw (← (same-code is)) (here (p .0) (p .1 some)))
       go others (fine g) e =
           let r = went-on (element chain (x ∷ xs)) (passed widths d s) e in
           let f = r .0 in
           let ps = cutFrom most (at + f .size) (f .chains) (drop (f .size) (x ∷ xs)) in
-          let on = sym (goes widths d at ps s f g (r .2)) ∙ ap (elements widths d s) (sym (cut-one most at chain (x ∷ xs) f some (r .1))) ∙ h in
+          let on = sym (goes (placed widths d) at ps s f g (r .2)) ∙ ap (elements widths d s) (sym (cut-one most at chain (x ∷ xs) f some (r .1))) ∙ h in
           let rest = others (at + f .size) (f .chains) (drop (f .size) (x ∷ xs)) (g .state) (fault-behind (g .items) (elements widths d (g .state) ps) on) in
           let z = rest .1 in
           (f .size + rest .0, omega arith, later f (r .1) (rest .2))

@@ -10,16 +10,16 @@ use lib.Seq.{sets}
 use lib.Dec.{ltb, leb, eqb}
 use Rattle.part.specs.Numbers.{if_then_else_, origin, last, ones, byte, word, little}
 use Rattle.part.specs.Checks.{Checked, fine, fault, refuse, require, requireAt, startingAt, _>>=_, _>>_}
-use Rattle.part.specs.States.{point, state, withInline}
+use Rattle.part.specs.States.{point, state, withInline, withUsed}
 use Rattle.part.specs.Ranges.{upTo, _∈_, hold, descriptorFields, stateFields}
 use Rattle.part.specs.Elements.{Element, Text, ruleWidth}
 use Rattle.part.specs.Types.{Lengths, types, rowOf, allBut, _takes_}
-use Rattle.part.specs.Reading.{Found, found, between}
-use Rattle.part.specs.Records.{Item, allBytes}
+use Rattle.part.specs.Reading.{Found, Piece, found, between}
+use Rattle.part.specs.Records.{Item, bytesOf, allBytes}
 use Rattle.part.specs.Presenting.{default, moved, hides}
 use Rattle.part.specs.Text.{cycle}
-use Rattle.part.specs.Place.{Effect, effect, shownText, placeText, placeRule}
-use Rattle.part.specs.Part.{roomed, placed}
+use Rattle.part.specs.Place.{Effect, effect, place, shownText, placeText, placeRule}
+use Rattle.part.specs.Part.{passedBy, elementsBy}
 use Rattle.part.specs.declared.shapes.Descriptor.{Descriptor}
 use Rattle.part.specs.declared.shapes.State.{State}
 use Rattle.part.specs.declared.types.TypeRow.{TypeRow}
@@ -86,6 +86,10 @@ abbrev pub stateOf : List ℕ → State
 stateOf w =
     state (point (getD w 0 0) (getD w 1 0)) (getD w 2 0) (getD w 3 0) (getD w 4 0) (getD w 5 0) (getD w 6 0) (getD w 7 0) (getD w 8 0) (getD w 9 0) (getD w 10 0) (getD w 11 0)
 
+-- a state's numbers, with so many bytes used
+abbrev pub workingOf : State → ℕ → List ℕ
+workingOf s used = s .at .i ∷ s .at .b ∷ s .margin ∷ s .increment ∷ s .adjustment ∷ s .direction ∷ s .font ∷ s .colour ∷ s .space ∷ s .suppression ∷ s .chain ∷ used ∷ []
+
 -- an effect's state, and its records stored at the bytes used
 abbrev pub stateAfter : Checked Effect → Checked State
 stateAfter m = m >>= λ e. fine (e .state)
@@ -104,43 +108,84 @@ Does what r w area =
     (verdict r (stateOf (now (w .exit))) ≡ stateAfter (what (stateOf (now (w .entry)))))
     × (now (area .exit) ≡ inked (now (area .entry)) (getD (now (w .entry)) 11 0) (what (stateOf (now (w .entry)))))
 
--- what placing relies on: the numbers of the working state in range, 1,024 widths, an area of 4,096 bytes
+-- the descriptor's numbers, in its own order
+abbrev pub descriptorOf : List ℕ → Descriptor
+descriptorOf d = record {
+  size = point (getD d 0 0) (getD d 1 0);
+  initial = point (getD d 2 0) (getD d 3 0);
+  margin = getD d 4 0;
+  increment = getD d 5 0;
+  adjustment = getD d 6 0;
+  direction = getD d 7 0;
+  font = getD d 8 0;
+  colour = getD d 9 0;
+  rule = getD d 10 0;
+  hidden = getD d 11 0;
+}
+
+abbrev pub givenOf : Descriptor → List ℕ
+givenOf d = d .size .i ∷ d .size .b ∷ d .initial .i ∷ d .initial .b ∷ d .margin ∷ d .increment ∷ d .adjustment ∷ d .direction ∷ d .font ∷ d .colour ∷ d .rule ∷ d .hidden ∷ []
+
+-- what placing relies on: the numbers of the working state in range, 1,024 widths, an area of at most 4,096 bytes that holds those used
 pub record Ready (table area w : List ℕ) : Type 0 where
   pub twelve : length w ≡ 12
   pub inRange : hold (stateFields (stateOf w)) ≡ true
   pub widths : length table ≡ 1024
-  pub whole : length area ≡ 4096
+  pub small : length area ≤ 4096
+  pub fits : getD w 11 0 ≤ length area
 
--- ---- records, where there is room
+-- ---- records, where an area of so many bytes has room for them
+
+abbrev pub roomIn : ℕ → ℕ → List Item → Checked ℕ
+roomIn most used [] = fine used
+roomIn most used (x ∷ xs) = do
+  require (leb (used + length (bytesOf x)) most) 29
+  roomIn most (used + length (bytesOf x)) xs
+
+abbrev pub roomedIn : ℕ → State → Checked Effect → Checked Effect
+roomedIn most s m = do
+  done ← m
+  used ← roomIn most (s .used) (done .items)
+  effect (withUsed (done .state) used) (done .items)
+
+module _ (most : ℕ) (widths : List ℕ) (d : Descriptor) where
+  unfoldable pub placedIn : State → Element → Checked Effect
+  placedIn s e = roomedIn most s (place widths d s e)
+
+  abbrev pub passedIn : State → Found → Checked Effect
+  passedIn = passedBy placedIn
+
+  abbrev pub elementsIn : State → List Piece → Checked Effect
+  elementsIn = elementsBy placedIn
 
 -- one item, and nothing else changed but the bytes used
-abbrev pub recorded : State → Item → Checked Effect
-recorded s x = roomed s (effect s (x ∷ []))
+abbrev pub recorded : ℕ → State → Item → Checked Effect
+recorded most s x = roomedIn most s (effect s (x ∷ []))
 
 -- text that leaves I at a place
-abbrev pub advanced : State → ℕ → List ℕ → Checked Effect
-advanced s i cs = roomed s (effect (withInline s i) (shownText s cs ∷ []))
+abbrev pub advanced : ℕ → State → ℕ → List ℕ → Checked Effect
+advanced most s i cs = roomedIn most s (effect (withInline s i) (shownText s cs ∷ []))
 
 -- ---- rules
 
 -- DIR, DBR, from parameters to records
-abbrev pub ruled : Descriptor → State → ℕ → List ℕ → Checked Effect
-ruled d s mark p = do
+abbrev pub ruled : ℕ → Descriptor → State → ℕ → List ℕ → Checked Effect
+ruled most d s mark p = do
   requireAt 4 (word 0 p 0 ∈ upTo 0x7FFF) 24
   requireAt 6 (ruleWidth (word 0xFF p 2) (byte 0xFF p 4)) 24
-  roomed s (placeRule d s mark (word 0 p 0) (default ones (word 0xFF p 2) (d .rule)))
+  roomedIn most s (placeRule d s mark (word 0 p 0) (default ones (word 0xFF p 2) (d .rule)))
 
 -- ---- sequences
 
 -- RPS, from parameters to records
-abbrev pub repeating : List ℕ → Descriptor → State → List ℕ → Checked Effect
-repeating widths d s p = do
+abbrev pub repeating : ℕ → List ℕ → Descriptor → State → List ℕ → Checked Effect
+repeating most widths d s p = do
   requireAt 4 (word 0 p 0 ∈ upTo (if ltb 2 (length p) then 0x7FFF else 0)) 24
-  roomed s (placeText widths d s (cycle (drop 2 p) 0 (word 0 p 0)))
+  roomedIn most s (placeText widths d s (cycle (drop 2 p) 0 (word 0 p 0)))
 
 -- any sequence, behind 2B D3
-abbrev pub performed : List ℕ → Descriptor → State → ℕ → List ℕ → Checked Effect
-performed widths d s function p = fitted 2 function p >>= placed widths d s
+abbrev pub performed : ℕ → List ℕ → Descriptor → State → ℕ → List ℕ → Checked Effect
+performed most widths d s function p = fitted 2 function p >>= placedIn most widths d s
 
 -- ---- text: what does not change within an element is in a `Line`
 
@@ -243,6 +288,15 @@ Completed (fault code at) many used before count s area = ⊥
 abbrev pub Ran : Checked Effect → ℕ → ℕ → List ℕ → Outcome → State → List ℕ → Type 0
 Ran m many used before o s area =
     elim (o .fault) [ zero ↦ Completed m many used before (o .count) s area | suc n ↦ m ≡ fault (suc n % 256) (o .at + suc n / 256) ]
+
+-- what is added to a larger area, from a place on: the records of an outcome, or nothing
+abbrev pub AddedAll : Checked Effect → ℕ → List ℕ → ℕ → ℕ → State → List ℕ → Type 0
+AddedAll (fine e) many area from count s after = (e .state ≡ s) × ((many ≡ count) × (after ≡ sets area from (allBytes (e .items))))
+AddedAll (fault code at) many area from count s after = ⊥
+
+abbrev pub Added : Checked Effect → ℕ → List ℕ → ℕ → Outcome → State → List ℕ → Type 0
+Added m many area from o s after =
+    elim (o .fault) [ zero ↦ AddedAll m many area from (o .count) s after | suc n ↦ (m ≡ fault (suc n % 256) (o .at + suc n / 256)) × (after ≡ area) ]
 
 -- ---- the tests before any element, by the lengths alone
 

@@ -1,6 +1,7 @@
 // Interprets one part of presentation text. What other crates may use is public, and asks nothing of a caller.
 pub mod bools;
 mod faults;
+mod given;
 pub mod interpret;
 mod little;
 mod moves;

@@ -6,10 +6,16 @@ ghost use lib.ListN.{length};
 ghost use Rattle.part.specs.Numbers.{if_then_else_};
 ghost use Rattle.part.specs.Ranges.{upTo, colours};
 ghost use Rattle.part.specs.Working.{absolute, relative, setting, fontSetting, adjusting, beginning, ending};
-ghost use Rattle.part.specs.Code.{verdict, sized, Does, ruled, repeating, performed, Ready};
+ghost use Rattle.part.specs.Code.{verdict, sized, Does, ruled, repeating, performed, Ready, descriptorOf};
 use super::faults::UNKNOWN_TYPE;
 use super::faults::WRONG_LENGTH;
 use super::faults::WRONG_VALUE;
+use super::given::DEFAULT_ADJUSTMENT;
+use super::given::DEFAULT_COLOUR;
+use super::given::DEFAULT_DIRECTION;
+use super::given::DEFAULT_FONT;
+use super::given::DEFAULT_INCREMENT;
+use super::given::DEFAULT_MARGIN;
 use super::moves::absolute_move;
 use super::moves::begin_line;
 use super::moves::relative_move;
@@ -23,7 +29,6 @@ use super::settings::set_adjustment;
 use super::settings::set_color;
 use super::settings::set_font;
 use super::settings::set_number;
-use super::shapes::Descriptor;
 use super::show::show_text;
 use super::types::AMB;
 use super::types::AMI;
@@ -140,9 +145,9 @@ fn try_end(row: TypeRow, p: &[u8], w: &mut [u32]) -> u32
 }
 
 // DIR, DBR.
-fn try_rule(row: TypeRow, mark: u32, p: &[u8], area: &mut [u8], d: Descriptor, w: &mut [u32]) -> u32
-    requires { ⌜ (length (now w) ≡ 12) × (length (now area) ≡ 4096) ⌝ }
-    ensures { λ r. ⌜ Does (λ s. sized row (now (p .entry)) (ruled d s mark (now (p .entry)))) r w area ⌝ }
+fn try_rule(row: TypeRow, mark: u32, p: &[u8], area: &mut [u8], d: &[u32; 12], w: &mut [u32]) -> u32
+    requires { ⌜ (length (now w) ≡ 12) × (length (now area) ≤ 4096) ⌝ }
+    ensures { λ r. ⌜ Does (λ s. sized row (now (p .entry)) (ruled (length (now (area .entry))) (descriptorOf (now (d .entry))) s mark (now (p .entry)))) r w area ⌝ }
 {
     if !suits(row, p) {
         return WRONG_LENGTH;
@@ -156,11 +161,11 @@ fn repeat_string(
     p: &[u8],
     widths: &[u16],
     area: &mut [u8],
-    d: Descriptor,
+    d: &[u32; 12],
     w: &mut [u32],
 ) -> u32
     requires { ⌜ Ready (now widths) (now area) (now w) × (length (now p) < 65536) ⌝ }
-    ensures { λ r. ⌜ Does (λ s. sized row (now (p .entry)) (repeating (now (widths .entry)) d s (now (p .entry)))) r w area ⌝ }
+    ensures { λ r. ⌜ Does (λ s. sized row (now (p .entry)) (repeating (length (now (area .entry))) (now (widths .entry)) (descriptorOf (now (d .entry))) s (now (p .entry)))) r w area ⌝ }
 {
     if !suits(row, p) {
         return WRONG_LENGTH;
@@ -191,11 +196,11 @@ pub fn perform(
     p: &[u8],
     widths: &[u16],
     area: &mut [u8],
-    d: Descriptor,
+    d: &[u32; 12],
     w: &mut [u32],
 ) -> u32
     requires { ⌜ Ready (now widths) (now area) (now w) × ((length (now p) < 65536) × (function ≡ 0xDA → ⊥)) ⌝ }
-    ensures { λ r. ⌜ Does (λ s. performed (now (widths .entry)) d s function (now (p .entry))) r w area ⌝ }
+    ensures { λ r. ⌜ Does (λ s. performed (length (now (area .entry))) (now (widths .entry)) (descriptorOf (now (d .entry))) s function (now (p .entry))) r w area ⌝ }
 {
     match function {
         0xC6 => try_absolute(AMI, p, w, I),
@@ -207,12 +212,12 @@ pub fn perform(
         } else {
             WRONG_LENGTH
         },
-        0xC0 => try_number(SIM, p, w, MARGIN, 0x7FFF, d.margin),
-        0xD0 => try_number(SBI, p, w, INCREMENT, 0x7FFF, d.increment),
-        0xC2 => try_adjustment(SIA, p, w, d.adjustment, d.direction),
+        0xC0 => try_number(SIM, p, w, MARGIN, 0x7FFF, d[DEFAULT_MARGIN]),
+        0xD0 => try_number(SBI, p, w, INCREMENT, 0x7FFF, d[DEFAULT_INCREMENT]),
+        0xC2 => try_adjustment(SIA, p, w, d[DEFAULT_ADJUSTMENT], d[DEFAULT_DIRECTION]),
         0xC4 => try_number(SVI, p, w, SPACE, 0xFFF, ONES),
-        0xF0 => try_font(SCFL, p, w, d.font),
-        0x74 => try_color(STC, p, w, d.colour),
+        0xF0 => try_font(SCFL, p, w, d[DEFAULT_FONT]),
+        0x74 => try_color(STC, p, w, d[DEFAULT_COLOUR]),
         0xF6 => if suits(STO, p) {
             orientation(p)
         } else {

@@ -1,7 +1,7 @@
 // Rules: DIR and DBR.
 ghost use mathlib.Core.Path.{_≡_};
 ghost use mathlib.Core.Bool.{_&&_};
-ghost use Prim.Native.Nat.{_+_, _<_};
+ghost use Prim.Native.Nat.{_+_, _≤_, _<_};
 ghost use lib.Dec.{leb};
 ghost use lib.ListN.{length};
 ghost use Rattle.part.specs.Numbers.{origin};
@@ -9,18 +9,21 @@ ghost use Rattle.part.specs.Ranges.{upTo, _∈_};
 ghost use Rattle.part.specs.Elements.{ruleWidth};
 ghost use Rattle.part.specs.Records.{ink};
 ghost use Rattle.part.specs.Place.{along, shownRule};
-ghost use Rattle.part.specs.Code.{Does, recorded, ruled};
+ghost use Rattle.part.specs.Code.{Does, recorded, ruled, descriptorOf};
 use super::bools::both;
 use super::bools::either;
 use super::faults::WRONG_VALUE;
 use super::faults::WRONG_WIDTH;
+use super::given::DEFAULT_RULE;
+use super::given::HIDDEN;
+use super::given::SIZE_B;
+use super::given::SIZE_I;
 use super::numbers::ONES;
 use super::numbers::wide;
 use super::presenting::is_hidden;
 use super::presenting::within;
 use super::record::Head;
 use super::record::put_head;
-use super::shapes::Descriptor;
 use super::values::byte_at;
 use super::values::or_default;
 use super::values::word_at;
@@ -64,11 +67,12 @@ fn has_ink(len: u32, width: u32) -> bool
 
 // The record of a rule at the working state's place, if there is room.
 fn record_rule(area: &mut [u8], w: &mut [u32], mark: u32, len: u32, width: u32) -> u32
-    requires { ⌜ (length (now w) ≡ 12) × (length (now area) ≡ 4096) ⌝ }
-    ensures { λ r. ⌜ Does (λ s. recorded s (shownRule s mark len width)) r w area ⌝ }
+    requires { ⌜ (length (now w) ≡ 12) × (length (now area) ≤ 4096) ⌝ }
+    ensures { λ r. ⌜ Does (λ s. recorded (length (now (area .entry))) s (shownRule s mark len width)) r w area ⌝ }
 {
     let used = wide(w[USED]);
-    if 4080 < used {
+    let end = used + 16;
+    if area.len() < end {
         return 29;
     }
     let i = wide(w[I]);
@@ -85,14 +89,14 @@ fn record_rule(area: &mut [u8], w: &mut [u32], mark: u32, len: u32, width: u32) 
         fourth: width as usize,
     };
     put_head(area, used, h);
-    w[USED] = (used + 16) as u32;
+    w[USED] = end as u32;
     0
 }
 
 // A rule: 24, 27, and with ink 29.
-pub fn draw_rule(mark: u32, p: &[u8], area: &mut [u8], d: Descriptor, w: &mut [u32]) -> u32
-    requires { ⌜ (length (now w) ≡ 12) × (length (now area) ≡ 4096) ⌝ }
-    ensures { λ r. ⌜ Does (λ s. ruled d s mark (now (p .entry))) r w area ⌝ }
+pub fn draw_rule(mark: u32, p: &[u8], area: &mut [u8], d: &[u32; 12], w: &mut [u32]) -> u32
+    requires { ⌜ (length (now w) ≡ 12) × (length (now area) ≤ 4096) ⌝ }
+    ensures { λ r. ⌜ Does (λ s. ruled (length (now (area .entry))) (descriptorOf (now (d .entry))) s mark (now (p .entry))) r w area ⌝ }
 {
     let len = word_at(p, 0, 0);
     let given = word_at(p, 2, 0xFF);
@@ -103,11 +107,11 @@ pub fn draw_rule(mark: u32, p: &[u8], area: &mut [u8], d: Descriptor, w: &mut [u
         }
         return WRONG_WIDTH;
     }
-    let width = or_default(ONES, given, d.rule);
-    if is_hidden(w[SUPPRESSION], d.hidden) {
+    let width = or_default(ONES, given, d[DEFAULT_RULE]);
+    if is_hidden(w[SUPPRESSION], d[HIDDEN]) {
         return 0;
     }
-    if !fits_sheet(d.size.i, d.size.b, w[I], w[B], mark, len, width) {
+    if !fits_sheet(d[SIZE_I], d[SIZE_B], w[I], w[B], mark, len, width) {
         return 27;
     }
     if !has_ink(len, width) {

@@ -5,12 +5,10 @@ ghost use Prim.Native.Nat.{_-_, _/_, _%_, _≤_, _<_};
 ghost use lib.ListN.{length, getD};
 ghost use Rattle.part.specs.Ranges.{hold, descriptorFields};
 ghost use Rattle.part.specs.Reading.{cut};
-ghost use Rattle.part.specs.Part.{elements};
-ghost use Rattle.part.specs.Code.{stateOf, Ready, Ran};
+ghost use Rattle.part.specs.Code.{stateOf, descriptorOf, elementsIn, Ready, Ran};
 use super::perform::perform;
 use super::reader::Read;
 use super::reader::read_element;
-use super::shapes::Descriptor;
 use super::show::show_plain;
 use super::working::CHAIN;
 
@@ -33,9 +31,9 @@ fn nearer(fault: u32, from: usize) -> u32
     fault - by
 }
 
-pub fn run(part: &[u8], widths: &[u16], area: &mut [u8], d: Descriptor, w: &mut [u32]) -> Outcome
-    requires { ⌜ Ready (now widths) (now area) (now w) × ((hold (descriptorFields d) ≡ true) × (length (now part) ≤ 8192)) ⌝ }
-    ensures { λ r. ⌜ Ran (elements (now (widths .entry)) d (stateOf (now (w .entry))) (cut (getD (now (w .entry)) 10 0) (now (part .entry)))) (length (cut (getD (now (w .entry)) 10 0) (now (part .entry)))) (getD (now (w .entry)) 11 0) (now (area .entry)) r (stateOf (now (w .exit))) (now (area .exit)) ⌝ }
+pub fn run(part: &[u8], widths: &[u16], area: &mut [u8], d: &[u32; 12], w: &mut [u32]) -> Outcome
+    requires { ⌜ Ready (now widths) (now area) (now w) × ((hold (descriptorFields (descriptorOf (now d))) ≡ true) × (length (now part) ≤ 8192)) ⌝ }
+    ensures { λ r. ⌜ Ran (elementsIn (length (now (area .entry))) (now (widths .entry)) (descriptorOf (now (d .entry))) (stateOf (now (w .entry))) (cut (getD (now (w .entry)) 10 0) (now (part .entry)))) (length (cut (getD (now (w .entry)) 10 0) (now (part .entry)))) (getD (now (w .entry)) 11 0) (now (area .entry)) r (stateOf (now (w .exit))) (now (area .exit)) ⌝ }
     ensures { λ r. ⌜ (r .at ≤ 8192) × (r .count ≤ 8192) ⌝ }
 {
     let mut at: usize = 0;

@@ -8,10 +8,12 @@ ghost use Rattle.part.specs.Numbers.{if_then_else_, origin, ones};
 ghost use Rattle.part.specs.Presenting.{default, hides};
 ghost use Rattle.part.specs.Text.{cycle, characters};
 ghost use Rattle.part.specs.Place.{placeText};
-ghost use Rattle.part.specs.Part.{roomed};
-ghost use Rattle.part.specs.Code.{Does, reached, stateOf, advanced, baseline, Bounded, Plain, Ready, headOf};
+ghost use Rattle.part.specs.Code.{Does, reached, stateOf, advanced, baseline, Bounded, Plain, Ready, headOf, roomedIn, descriptorOf};
 use super::bools::both;
 use super::bools::either;
+use super::given::HIDDEN;
+use super::given::SIZE_B;
+use super::given::SIZE_I;
 use super::numbers::LAST;
 use super::numbers::ONES;
 use super::numbers::lesser;
@@ -23,7 +25,6 @@ use super::record::Head;
 use super::record::draw;
 use super::record::put_head;
 use super::record::store_text;
-use super::shapes::Descriptor;
 use super::text::Line;
 use super::text::plain_end;
 use super::text::present;
@@ -77,18 +78,25 @@ fn walk_line(
     count: usize,
     widths: &[u16],
     w: &[u32],
-    d: Descriptor,
+    d: &[u32; 12],
     hidden: bool,
 ) -> Reached
-    requires { ⌜ ((length (now w) ≡ 12) × ((length (now widths) ≡ 1024) × (getD (now w) 6 0 ≤ 3))) × (((0 < length (now t)) × ((length (now t) < 65536) × (count < 65536))) × ((hidden ≡ hides d (stateOf (now w))) × (baseline d (stateOf (now w)) ≡ true))) ⌝ }
-    ensures { λ r. ⌜ (reached r ≡ characters (now (widths .entry)) d (stateOf (now (w .entry))) (getD (now (w .entry)) 0 0) (cycle (now (t .entry)) 0 count)) × (r .at < 4294967296) ⌝ }
+    requires { ⌜ ((length (now w) ≡ 12) × ((length (now widths) ≡ 1024) × (getD (now w) 6 0 ≤ 3))) × (((0 < length (now t)) × ((length (now t) < 65536) × (count < 65536))) × ((hidden ≡ hides (descriptorOf (now d)) (stateOf (now w))) × (baseline (descriptorOf (now d)) (stateOf (now w)) ≡ true))) ⌝ }
+    ensures { λ r. ⌜ (reached r ≡ characters (now (widths .entry)) (descriptorOf (now (d .entry))) (stateOf (now (w .entry))) (getD (now (w .entry)) 0 0) (cycle (now (t .entry)) 0 count)) × (r .at < 4294967296) ⌝ }
 {
     let font = wide(w[FONT]);
     let from = 256 * font;
     let to = from + 256;
     let row = &widths[from..to];
     let own = row[0x40] as u32;
-    let l = line_of(w[SPACE], own, hidden, d.size.i, w[DIRECTION], w[ADJUSTMENT]);
+    let l = line_of(
+        w[SPACE],
+        own,
+        hidden,
+        d[SIZE_I],
+        w[DIRECTION],
+        w[ADJUSTMENT],
+    );
     present(t, count, row, l, wide(w[I]))
 }
 
@@ -111,12 +119,12 @@ fn text_head(w: &[u32], n: usize) -> Head
 
 // The record of a text that leaves I at a place, if there is room.
 fn record_text(t: &[u8], count: usize, area: &mut [u8], w: &mut [u32], i: usize) -> u32
-    requires { ⌜ (length (now w) ≡ 12) × ((length (now area) ≡ 4096) × ((getD (now w) 4 0 ≤ 4095) × ((0 < length (now t)) × ((count < 65536) × (i < 4294967296))))) ⌝ }
-    ensures { λ r. ⌜ Does (λ s. advanced s i (cycle (now (t .entry)) 0 count)) r w area ⌝ }
+    requires { ⌜ (length (now w) ≡ 12) × ((length (now area) ≤ 4096) × ((getD (now w) 4 0 ≤ 4095) × ((0 < length (now t)) × ((count < 65536) × (i < 4294967296))))) ⌝ }
+    ensures { λ r. ⌜ Does (λ s. advanced (length (now (area .entry))) s i (cycle (now (t .entry)) 0 count)) r w area ⌝ }
 {
     let used = wide(w[USED]);
     let end = used + 16 + count;
-    if 4096 < end {
+    if area.len() < end {
         return 29;
     }
     put_head(area, used, text_head(&w[..], count));
@@ -132,17 +140,17 @@ pub fn show_text(
     count: usize,
     widths: &[u16],
     area: &mut [u8],
-    d: Descriptor,
+    d: &[u32; 12],
     w: &mut [u32],
 ) -> u32
     requires { ⌜ Ready (now widths) (now area) (now w) × ((0 < count → 0 < length (now t)) × ((length (now t) < 65536) × (count < 65536))) ⌝ }
-    ensures { λ r. ⌜ Does (λ s. roomed s (placeText (now (widths .entry)) d s (cycle (now (t .entry)) 0 count))) r w area ⌝ }
+    ensures { λ r. ⌜ Does (λ s. roomedIn (length (now (area .entry))) s (placeText (now (widths .entry)) (descriptorOf (now (d .entry))) s (cycle (now (t .entry)) 0 count))) r w area ⌝ }
 {
     if count == 0 {
         return 0;
     }
-    let hidden = is_hidden(w[SUPPRESSION], d.hidden);
-    if !either(hidden, within(w[B], 0, d.size.b)) {
+    let hidden = is_hidden(w[SUPPRESSION], d[HIDDEN]);
+    if !either(hidden, within(w[B], 0, d[SIZE_B])) {
         return 27;
     }
     let r = walk_line(t, count, widths, w, d, hidden);
@@ -158,12 +166,12 @@ pub fn show_text(
 
 // The record of plain text that leaves I at a place, if there is room.
 fn record_plain(t: &[u8], area: &mut [u8], w: &mut [u32], i: usize) -> u32
-    requires { ⌜ (length (now w) ≡ 12) × ((length (now area) ≡ 4096) × ((getD (now w) 4 0 ≤ 4095) × ((length (now t) < 65536) × (i < 4294967296)))) ⌝ }
-    ensures { λ r. ⌜ Does (λ s. advanced s i (now (t .entry))) r w area ⌝ }
+    requires { ⌜ (length (now w) ≡ 12) × ((length (now area) ≤ 4096) × ((getD (now w) 4 0 ≤ 4095) × ((length (now t) < 65536) × (i < 4294967296)))) ⌝ }
+    ensures { λ r. ⌜ Does (λ s. advanced (length (now (area .entry))) s i (now (t .entry))) r w area ⌝ }
 {
     let used = wide(w[USED]);
     let end = used + 16 + t.len();
-    if 4096 < end {
+    if area.len() < end {
         return 29;
     }
     put_head(area, used, text_head(&w[..], t.len()));
@@ -185,9 +193,9 @@ fn is_plain(w: &[u32], size_i: u32, size_b: u32, end: usize) -> bool
 }
 
 // A text as it is, from its first character to its last. Where it is plain, its end decides for all of them.
-pub fn show_plain(t: &[u8], widths: &[u16], area: &mut [u8], d: Descriptor, w: &mut [u32]) -> u32
+pub fn show_plain(t: &[u8], widths: &[u16], area: &mut [u8], d: &[u32; 12], w: &mut [u32]) -> u32
     requires { ⌜ Ready (now widths) (now area) (now w) × (length (now t) < 65536) ⌝ }
-    ensures { λ r. ⌜ Does (λ s. roomed s (placeText (now (widths .entry)) d s (now (t .entry)))) r w area ⌝ }
+    ensures { λ r. ⌜ Does (λ s. roomedIn (length (now (area .entry))) s (placeText (now (widths .entry)) (descriptorOf (now (d .entry))) s (now (t .entry)))) r w area ⌝ }
 {
     let n = t.len();
     if n == 0 {
@@ -198,7 +206,7 @@ pub fn show_plain(t: &[u8], widths: &[u16], area: &mut [u8], d: Descriptor, w: &
     let row = &widths[from..to];
     let space = or_default(ONES, w[SPACE], row[0x40] as u32);
     let end = plain_end(t, row, wide(space), wide(w[I]), wide(w[ADJUSTMENT]));
-    if is_plain(&w[..], d.size.i, d.size.b, end) {
+    if is_plain(&w[..], d[SIZE_I], d[SIZE_B], end) {
         return record_plain(t, area, w, end);
     }
     show_text(&t[..n], n, widths, area, d, w)

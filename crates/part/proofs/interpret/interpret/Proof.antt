@@ -1,14 +1,17 @@
--- `part::interpret::interpret` meets its contract: the elements are placed into a scratch area, and what a whole run added is stored.
+-- `part::interpret::interpret` meets its contract: what was tested first, no bytes, a short part on a small scratch area, and any other.
 -- Assumes nothing.
-use Prim.Native.Nat.{_+_, _-_, _/_, _%_}
-use Rattle.part.proofs.Answers.{fits, refused-first, broken, whole}
-use Rattle.part.proofs.Turns.{ran-stopped}
-use Rattle.part.specs.Code.{stateOf}
+use Prim.Native.Nat.{_+_, _≤_}
+use Rattle.part.proofs.Answers.{fits, lowered, refused-first, briefly, empty}
+use Rattle.part.proofs.Checks.{second-of}
+use Rattle.part.proofs.Turns.{added-stopped}
+use Rattle.part.specs.Code.{stateOf, descriptorOf, elementsIn}
+use Rattle.part.specs.Reading.{cut}
 use borrow.Author.Needs.{needs}
+use borrow.Author.Tests.{leb-true}
 use denote.Ref.{now}
-use lib.ListN.{length, drop, length-drop}
-use lib.Seq.{length-take-le}
-use mathlib.Core.Path.{_≡_, refl, _∙_}
+use lib.Dec.{leb}
+use lib.ListN.{length, getD}
+use mathlib.Core.Path.{refl, sym, _∙_}
 use native.Mathlib.Omega.{arith}
 use Rattle.part.proofs.interpret.interpret.Statement.{statement}
 use Rattle.part.proofs.interpret.interpret.Tie as tie
@@ -29,162 +32,126 @@ returns c =
     let r = refused-first widths (a .d) s part area (c .before .before .admit .result) (c .before .if1 .taken) (c .before .before .admit .ensures .1) (c .before .before .admit .ensures .0) in
     (c .refusal .ensures ∙ r .0, r .1)
 
-slice-aggregate-run : tie.Need-slice-aggregate-run
-slice-aggregate-run c = search needs
+refusal-requires-2 : tie.Need-refusal-requires-2
+refusal-requires-2 c κs = search needs
 
-slice-aggregate-run-2 : tie.Need-slice-aggregate-run-2
-slice-aggregate-run-2 c = search needs
-
-run-requires : tie.Need-run-requires
-run-requires c κs =
+returns-2 : tie.Need-returns-2
+returns-2 c =
     let a = c .before .before .before .before .before .before .before .args in
     let part = now (a .part) in
     let widths = now (a .widths) in
     let area = now (a .area) in
     let s = a .s in
     let adm = rw (c .before .before .if1 .left) at (c .before .before .before .admit .ensures .0) in
-    let fit = fits (length part) (length widths) (length area) (a .d) s adm in
-    (record { twelve = refl; inRange = fit .state; widths = fit .widths; whole = refl }, (fit .descriptor, fit .part))
+    let e = empty widths (a .d) s part area (c .before .if2 .taken) adm in
+    (c .refusal2 .ensures ∙ e .0, e .1)
 
-cast-at : tie.Need-cast-at
-cast-at c = search needs
+given-requires : tie.Need-given-requires
+given-requires c κs = search needs
 
-add-refusal : tie.Need-add-refusal
-add-refusal c = search needs
+both-requires : tie.Need-both-requires
+both-requires c κs = search needs
 
-refusal-requires-2 : tie.Need-refusal-requires-2
-refusal-requires-2 c κs = search needs
-
-returns-2 : tie.Need-returns-2
-returns-2 c =
-    let a = c .before .before .before .before .before .before .before .before .before .before .before .before .before .before .before .before .args in
-    let part = now (a .part) in
-    let widths = now (a .widths) in
-    let area = now (a .area) in
-    let s = a .s in
-    let adm = rw (c .before .before .before .before .before .before .before .before .before .before .before .if1 .left) at (c .before .before .before .before .before .before .before .before .before .before .before .before .admit .ensures .0) in
-    let u = c .before .before .before .before .before .before .before .before .run in
-    let stop = ran-stopped _ _ _ _ (u .result .fault) (u .result .at) (u .result .count) _ _ (c .before .before .before .before .if2 .taken) (u .ensures .0) in
-    let b = broken widths (a .d) s part area adm (u .result .fault % 256) (u .result .at + u .result .fault / 256) stop in
-    (c .refusal2 .ensures ∙ b .0, b .1)
+working-requires : tie.Need-working-requires
+working-requires c κs = search needs
 
 wide-requires : tie.Need-wide-requires
 wide-requires c κs = search needs
 
-array-read-wide : tie.Need-array-read-wide
-array-read-wide c = search needs
+slice-aggregate-added : tie.Need-slice-aggregate-added
+slice-aggregate-added c = search needs
 
-wide-requires-2 : tie.Need-wide-requires-2
-wide-requires-2 c κs = search needs
+slice-aggregate-added-2 : tie.Need-slice-aggregate-added-2
+slice-aggregate-added-2 c = search needs
 
-cast-first : tie.Need-cast-first
-cast-first c = search needs
-
-sub-second : tie.Need-sub-second
-sub-second c =
-    let a = c .before .before .before .before .before .before .before .before .before .before .before .before .before .before .before .args in
-    let part = now (a .part) in
-    let widths = now (a .widths) in
-    let area = now (a .area) in
-    let s = a .s in
-    let adm = rw (c .before .before .before .before .before .before .before .before .before .before .if1 .left) at (c .before .before .before .before .before .before .before .before .before .before .before .admit .ensures .0) in
-    let u = c .before .before .before .before .before .before .before .run in
-    let scratch = u .last .1 .1 .0 in
-    let done = whole widths (a .d) s part area adm (u .result .count) (stateOf (u .last .1 .1 .1 .1 .0)) _ scratch refl (search needs) (rw (c .before .before .before .if2 .left) at (u .ensures .0)) in
-    let from = c .before .before .wide .ensures .0 in
-    let past = c .before .wide2 .ensures .0 in
-    omega (arith, done .order)
-
-cast-second : tie.Need-cast-second
-cast-second c = search needs
-
-sub-store : tie.Need-sub-store
-sub-store c =
+added-requires : tie.Need-added-requires
+added-requires c κs =
     let a = c .before .before .before .before .before .before .before .before .before .before .before .before .before .before .before .before .args in
     let part = now (a .part) in
     let widths = now (a .widths) in
     let area = now (a .area) in
     let s = a .s in
     let adm = rw (c .before .before .before .before .before .before .before .before .before .before .before .if1 .left) at (c .before .before .before .before .before .before .before .before .before .before .before .before .admit .ensures .0) in
-    let u = c .before .before .before .before .before .before .before .before .run in
-    let scratch = u .last .1 .1 .0 in
-    let done = whole widths (a .d) s part area adm (u .result .count) (stateOf (u .last .1 .1 .1 .1 .0)) _ scratch refl (search needs) (rw (c .before .before .before .before .if2 .left) at (u .ensures .0)) in
-    let from = c .before .before .before .wide .ensures .0 in
-    let past = c .before .before .wide2 .ensures .0 in
-    omega (arith, done .order)
-
-part-store-start : tie.Need-part-store-start
-part-store-start c =
-    let a = c .before .before .before .before .before .before .before .before .before .before .before .before .before .before .before .before .before .args in
-    let part = now (a .part) in
-    let widths = now (a .widths) in
-    let area = now (a .area) in
-    let s = a .s in
-    let adm = rw (c .before .before .before .before .before .before .before .before .before .before .before .before .if1 .left) at (c .before .before .before .before .before .before .before .before .before .before .before .before .before .admit .ensures .0) in
-    let u = c .before .before .before .before .before .before .before .before .before .run in
-    let scratch = u .last .1 .1 .0 in
-    let done = whole widths (a .d) s part area adm (u .result .count) (stateOf (u .last .1 .1 .1 .1 .0)) _ scratch refl (search needs) (rw (c .before .before .before .before .before .if2 .left) at (u .ensures .0)) in
-    let from = c .before .before .before .before .wide .ensures .0 in
-    let past = c .before .before .before .wide2 .ensures .0 in
-    omega (arith, done .order)
-
-part-store-end : tie.Need-part-store-end
-part-store-end c =
-    let a = c .before .before .before .before .before .before .before .before .before .before .before .before .before .before .before .before .before .args in
-    let part = now (a .part) in
-    let widths = now (a .widths) in
-    let area = now (a .area) in
-    let s = a .s in
-    let adm = rw (c .before .before .before .before .before .before .before .before .before .before .before .before .if1 .left) at (c .before .before .before .before .before .before .before .before .before .before .before .before .before .admit .ensures .0) in
-    let u = c .before .before .before .before .before .before .before .before .before .run in
-    let scratch = u .last .1 .1 .0 in
-    let done = whole widths (a .d) s part area adm (u .result .count) (stateOf (u .last .1 .1 .1 .1 .0)) _ scratch refl (search needs) (rw (c .before .before .before .before .before .if2 .left) at (u .ensures .0)) in
-    let from = c .before .before .before .before .wide .ensures .0 in
-    let past = c .before .before .before .wide2 .ensures .0 in
-    let long : length scratch ≡ 4096 = search needs in
-    omega (arith, long, done .most)
-
-store-requires : tie.Need-store-requires
-store-requires c κs =
-    let a = c .before .before .before .before .before .before .before .before .before .before .before .before .before .before .before .before .before .before .args in
-    let part = now (a .part) in
-    let widths = now (a .widths) in
-    let area = now (a .area) in
-    let s = a .s in
-    let adm = rw (c .before .before .before .before .before .before .before .before .before .before .before .before .before .if1 .left) at (c .before .before .before .before .before .before .before .before .before .before .before .before .before .before .admit .ensures .0) in
-    let u = c .before .before .before .before .before .before .before .before .before .before .run in
-    let scratch = u .last .1 .1 .0 in
-    let done = whole widths (a .d) s part area adm (u .result .count) (stateOf (u .last .1 .1 .1 .1 .0)) _ scratch refl (search needs) (rw (c .before .before .before .before .before .before .if2 .left) at (u .ensures .0)) in
-    let from = c .before .before .before .before .before .wide .ensures .0 in
-    let past = c .before .before .before .before .wide2 .ensures .0 in
-    let first = c .before .before .before .before .before .wide .result in
-    let last = c .before .before .before .before .wide2 .result in
-    let long : length scratch ≡ 4096 = search needs in
-    let l = length-drop first scratch in
-    let n = length-take-le (last - first) (drop first scratch) (omega (arith, done .most)) in
+    let brief = leb-true (s .used) 3584 (second-of (leb (length part) 64) (leb (s .used) 3584) (sym (c .before .before .before .before .before .before .before .both .ensures) ∙ c .before .before .before .before .before .before .if3 .taken)) in
     let fit = fits (length part) (length widths) (length area) (a .d) s adm in
-    omega (arith, n, done .order, done .most, fit .area)
+    let from = c .before .before .before .wide in
+    let room : from .result + 512 ≤ length area + 0 = omega (arith, fit .area, from .ensures .0) in
+    rw (c .before .before .before .before .before .working .ensures, c .before .before .before .before .before .before .before .before .before .given .ensures) (record { twelve = refl; inRange = lowered s (fit .state); widths = fit .widths; small = leb-true _ _ refl; fits = leb-true _ _ refl }, (fit .descriptor, (fit .part, room)))
 
-state-of-requires : tie.Need-state-of-requires
-state-of-requires c κs = search needs
+array-read-size : tie.Need-array-read-size
+array-read-size c = search needs
+
+add-used : tie.Need-add-used
+add-used c =
+    let a = c .before .before .before .before .before .before .before .before .before .before .before .before .before .before .before .before .before .before .before .before .before .before .before .before .args in
+    let part = now (a .part) in
+    let widths = now (a .widths) in
+    let area = now (a .area) in
+    let s = a .s in
+    let adm = rw (c .before .before .before .before .before .before .before .before .before .before .before .before .before .before .before .before .before .before .before .if1 .left) at (c .before .before .before .before .before .before .before .before .before .before .before .before .before .before .before .before .before .before .before .before .admit .ensures .0) in
+    let brief = leb-true (s .used) 3584 (second-of (leb (length part) 64) (leb (s .used) 3584) (sym (c .before .before .before .before .before .before .before .before .before .before .before .before .before .before .before .both .ensures) ∙ c .before .before .before .before .before .before .before .before .before .before .before .before .before .before .if3 .taken)) in
+    let u = c .before .before .before .before .before .before .before .added in
+    let done = briefly widths (a .d) s part area adm 512 (u .result .count) (stateOf (u .last .1 .1 .1 .1 .1 .1 .0)) (u .last .1 .1 .0) (omega arith) (rw (c .before .before .before .before .before .before .before .before .before .before .before .wide .ensures .0, c .before .before .before .before .before .before .before .before .before .before .before .before .before .working .ensures, c .before .before .before .before .before .before .before .before .before .before .before .before .before .before .before .before .before .given .ensures, c .before .if4 .taken) at (u .ensures .0)) in
+    omega (arith, done .0)
+
+accepted-requires : tie.Need-accepted-requires
+accepted-requires c κs = search needs
 
 same-length : tie.Need-same-length
 same-length c = search needs
 
 returns-3 : tie.Need-returns-3
 returns-3 c =
-    let a = c .before .before .before .before .before .before .before .before .before .before .before .before .before .before .before .before .before .before .before .before .before .before .before .args in
+    let a = c .before .before .before .before .before .before .before .before .before .before .before .before .before .before .before .before .before .before .before .before .before .before .before .before .before .before .args in
     let part = now (a .part) in
     let widths = now (a .widths) in
     let area = now (a .area) in
     let s = a .s in
-    let adm = rw (c .before .before .before .before .before .before .before .before .before .before .before .before .before .before .before .before .before .before .if1 .left) at (c .before .before .before .before .before .before .before .before .before .before .before .before .before .before .before .before .before .before .before .admit .ensures .0) in
-    let u = c .before .before .before .before .before .before .before .before .before .before .before .before .before .before .before .run in
-    let scratch = u .last .1 .1 .0 in
-    let done = whole widths (a .d) s part area adm (u .result .count) (stateOf (u .last .1 .1 .1 .1 .0)) _ scratch refl (search needs) (rw (c .before .before .before .before .before .before .before .before .before .before .before .if2 .left) at (u .ensures .0)) in
-    let from = c .before .before .before .before .before .before .before .before .before .before .wide .ensures .0 in
-    let past = c .before .before .before .before .before .before .before .before .before .wide2 .ensures .0 in
-    (rw (c .state-of .ensures, from, past) (done .answers), c .before .before .before .before .store .ensures ∙ rw (from, past) (done .writes))
+    let adm = rw (c .before .before .before .before .before .before .before .before .before .before .before .before .before .before .before .before .before .before .before .before .before .if1 .left) at (c .before .before .before .before .before .before .before .before .before .before .before .before .before .before .before .before .before .before .before .before .before .before .admit .ensures .0) in
+    let brief = leb-true (s .used) 3584 (second-of (leb (length part) 64) (leb (s .used) 3584) (sym (c .before .before .before .before .before .before .before .before .before .before .before .before .before .before .before .before .before .both .ensures) ∙ c .before .before .before .before .before .before .before .before .before .before .before .before .before .before .before .before .if3 .taken)) in
+    let u = c .before .before .before .before .before .before .before .before .before .added in
+    let done = briefly widths (a .d) s part area adm 512 (u .result .count) (stateOf (u .last .1 .1 .1 .1 .1 .1 .0)) (u .last .1 .1 .0) (omega arith) (rw (c .before .before .before .before .before .before .before .before .before .before .before .before .before .wide .ensures .0, c .before .before .before .before .before .before .before .before .before .before .before .before .before .before .before .working .ensures, c .before .before .before .before .before .before .before .before .before .before .before .before .before .before .before .before .before .before .before .given .ensures, c .before .before .before .if4 .taken) at (u .ensures .0)) in
+    (c .accepted .ensures ∙ done .1, done .2)
+
+at-length-requires : tie.Need-at-length-requires
+at-length-requires c κs =
+    let a = c .before .before .before .before .before .before .before .before .before .before .before .before .before .before .before .before .before .before .before .before .before .before .before .before .before .args in
+    let part = now (a .part) in
+    let widths = now (a .widths) in
+    let area = now (a .area) in
+    let s = a .s in
+    let adm = rw (c .before .before .before .before .before .before .before .before .before .before .before .before .before .before .before .before .before .before .before .before .if1 .left) at (c .before .before .before .before .before .before .before .before .before .before .before .before .before .before .before .before .before .before .before .before .before .admit .ensures .0) in
+    let u = c .before .before .before .before .before .before .before .before .added in
+    let ws = c .before .before .before .before .before .before .before .before .before .before .before .before .before .before .working .result in
+    let ps = cut (getD ws 10 0) part in
+    let stop = added-stopped (elementsIn 512 widths (descriptorOf (c .before .before .before .before .before .before .before .before .before .before .before .before .before .before .before .before .before .before .given .result)) (stateOf ws) ps) (length ps) area (c .before .before .before .before .before .before .before .before .before .before .before .before .wide .result) (u .result .fault) (u .result .at) (u .result .count) (stateOf (u .last .1 .1 .1 .1 .1 .1 .0)) (u .last .1 .1 .0) (c .before .before .if4 .left) (u .ensures .0) in
+    rw (stop .1, c .before .before .before .before .before .before .before .before .before .before .before .before .before .before .before .before .before .before .given .ensures) adm
+
+same-length-2 : tie.Need-same-length-2
+same-length-2 c = search needs
+
+returns-4 : tie.Need-returns-4
+returns-4 c =
+    let a = c .before .before .before .before .before .before .before .before .before .before .before .before .before .before .before .before .before .before .before .before .before .before .before .before .before .before .before .before .args in
+    let part = now (a .part) in
+    let widths = now (a .widths) in
+    let area = now (a .area) in
+    let s = a .s in
+    let u = c .before .before .before .before .before .before .before .before .before .before .before .added in
+    let ws = c .before .before .before .before .before .before .before .before .before .before .before .before .before .before .before .before .before .working .result in
+    let ps = cut (getD ws 10 0) part in
+    let stop = added-stopped (elementsIn 512 widths (descriptorOf (c .before .before .before .before .before .before .before .before .before .before .before .before .before .before .before .before .before .before .before .before .before .given .result)) (stateOf ws) ps) (length ps) area (c .before .before .before .before .before .before .before .before .before .before .before .before .before .before .before .wide .result) (u .result .fault) (u .result .at) (u .result .count) (stateOf (u .last .1 .1 .1 .1 .1 .1 .0)) (u .last .1 .1 .0) (c .before .before .before .before .before .if4 .left) (u .ensures .0) in
+    rw (stop .1, c .before .before .before .before .before .before .before .before .before .before .before .before .before .before .before .before .before .before .before .before .before .given .ensures) at (c .before .before .at-length .ensures)
+
+at-length-requires-2 : tie.Need-at-length-requires-2
+at-length-requires-2 c κs =
+    rw (c .before .before .before .before .before .given .ensures) (rw (c .before .before .before .before .before .before .before .if1 .left) at (c .before .before .before .before .before .before .before .before .admit .ensures .0))
+
+same-length-3 : tie.Need-same-length-3
+same-length-3 c = search needs
+
+returns-5 : tie.Need-returns-5
+returns-5 c = rw (c .before .before .before .before .before .before .before .before .given .ensures) at (c .before .before .at-length2 .ensures)
 
 pub interpret-spec : {M : Type 1} → statement M
 interpret-spec =
@@ -193,23 +160,23 @@ interpret-spec =
     admit-requires
     refusal-requires
     returns
-    slice-aggregate-run
-    slice-aggregate-run-2
-    run-requires
-    cast-at
-    add-refusal
     refusal-requires-2
     returns-2
+    given-requires
+    both-requires
+    working-requires
     wide-requires
-    array-read-wide
-    wide-requires-2
-    cast-first
-    sub-second
-    cast-second
-    sub-store
-    part-store-start
-    part-store-end
-    store-requires
-    state-of-requires
+    slice-aggregate-added
+    slice-aggregate-added-2
+    added-requires
+    array-read-size
+    add-used
+    accepted-requires
     same-length
-    returns-3)
+    returns-3
+    at-length-requires
+    same-length-2
+    returns-4
+    at-length-requires-2
+    same-length-3
+    returns-5)

@@ -3,7 +3,7 @@
 use Prim.Native.Nat.{_+_}
 use Rattle.part.proofs.Arms.{plainly, passing, sizing, unsized, arm-AMI, arm-AMB, arm-RMI, arm-RMB, arm-BLN, arm-SIM, arm-SBI, arm-SIA, arm-SVI, arm-SCFL, arm-STC, arm-STO, arm-BSU, arm-ESU, arm-rules, arm-RPS, arm-NOP}
 use Rattle.part.proofs.Rows.{no-row}
-use Rattle.part.specs.Code.{stateOf}
+use Rattle.part.specs.Code.{stateOf, descriptorOf}
 use Rattle.part.specs.Types.{types, all, _takes_}
 use borrow.Author.Needs.{needs}
 use denote.Ref.{now}
@@ -31,11 +31,23 @@ suits-requires c κs = search needs
 begin-line-requires : tie.Need-begin-line-requires
 begin-line-requires c κs = search needs
 
+element-copy-out-try-number : tie.Need-element-copy-out-try-number
+element-copy-out-try-number c = search needs
+
 try-number-requires : tie.Need-try-number-requires
 try-number-requires c κs = search needs
 
+element-copy-out-try-number-2 : tie.Need-element-copy-out-try-number-2
+element-copy-out-try-number-2 c = search needs
+
 try-number-requires-2 : tie.Need-try-number-requires-2
 try-number-requires-2 c κs = search needs
+
+element-copy-out-try-adjustment : tie.Need-element-copy-out-try-adjustment
+element-copy-out-try-adjustment c = search needs
+
+element-copy-out-try-adjustment-2 : tie.Need-element-copy-out-try-adjustment-2
+element-copy-out-try-adjustment-2 c = search needs
 
 try-adjustment-requires : tie.Need-try-adjustment-requires
 try-adjustment-requires c κs = search needs
@@ -43,8 +55,14 @@ try-adjustment-requires c κs = search needs
 try-number-requires-3 : tie.Need-try-number-requires-3
 try-number-requires-3 c κs = search needs
 
+element-copy-out-try-font : tie.Need-element-copy-out-try-font
+element-copy-out-try-font c = search needs
+
 try-font-requires : tie.Need-try-font-requires
 try-font-requires c κs = search needs
+
+element-copy-out-try-color : tie.Need-element-copy-out-try-color
+element-copy-out-try-color c = search needs
 
 try-color-requires : tie.Need-try-color-requires
 try-color-requires c κs = search needs
@@ -82,7 +100,7 @@ returns c =
     let a = st .args in
     let w = now (a .w) in
     let p = now (a .p) in
-    rw (c .before .before .before .before .match .keys1, arm-AMI (now (a .widths)) (a .d) w p (st .pre .0 .twelve))
+    rw (c .before .before .before .before .match .keys1, arm-AMI (length (now (a .area))) (now (a .widths)) (descriptorOf (now (a .d))) w p (st .pre .0 .twelve))
     (plainly (all 4 4 takes (2 + length p)) (c .before .before .try-absolute .result) (c .before .before .try-absolute .last .1 .1 .0) _ stateOf (now (a .area)) (getD w 11 0) (c .before .before .try-absolute .ensures))
 
 same-length-2 : tie.Need-same-length-2
@@ -94,7 +112,7 @@ returns-2 c =
     let a = st .args in
     let w = now (a .w) in
     let p = now (a .p) in
-    rw (c .before .before .before .before .match .keys2, arm-AMB (now (a .widths)) (a .d) w p (st .pre .0 .twelve))
+    rw (c .before .before .before .before .match .keys2, arm-AMB (length (now (a .area))) (now (a .widths)) (descriptorOf (now (a .d))) w p (st .pre .0 .twelve))
     (plainly (all 4 4 takes (2 + length p)) (c .before .before .try-absolute2 .result) (c .before .before .try-absolute2 .last .1 .1 .0) _ stateOf (now (a .area)) (getD w 11 0) (c .before .before .try-absolute2 .ensures))
 
 same-length-3 : tie.Need-same-length-3
@@ -106,7 +124,7 @@ returns-3 c =
     let a = st .args in
     let w = now (a .w) in
     let p = now (a .p) in
-    rw (c .before .before .before .before .match .keys3, arm-RMI (now (a .widths)) (a .d) w p (st .pre .0 .twelve))
+    rw (c .before .before .before .before .match .keys3, arm-RMI (length (now (a .area))) (now (a .widths)) (descriptorOf (now (a .d))) w p (st .pre .0 .twelve))
     (plainly (all 4 4 takes (2 + length p)) (c .before .before .try-relative .result) (c .before .before .try-relative .last .1 .1 .0) _ stateOf (now (a .area)) (getD w 11 0) (c .before .before .try-relative .ensures))
 
 same-length-4 : tie.Need-same-length-4
@@ -118,7 +136,7 @@ returns-4 c =
     let a = st .args in
     let w = now (a .w) in
     let p = now (a .p) in
-    rw (c .before .before .before .before .match .keys4, arm-RMB (now (a .widths)) (a .d) w p (st .pre .0 .twelve))
+    rw (c .before .before .before .before .match .keys4, arm-RMB (length (now (a .area))) (now (a .widths)) (descriptorOf (now (a .d))) w p (st .pre .0 .twelve))
     (plainly (all 4 4 takes (2 + length p)) (c .before .before .try-relative2 .result) (c .before .before .try-relative2 .last .1 .1 .0) _ stateOf (now (a .area)) (getD w 11 0) (c .before .before .try-relative2 .ensures))
 
 same-length-5 : tie.Need-same-length-5
@@ -131,7 +149,7 @@ returns-5 c =
     let w = now (a .w) in
     let p = now (a .p) in
     let fit = sym (c .before .before .before .before .before .suits .ensures) ∙ c .before .before .before .before .if1 .taken in
-    rw (c .before .before .before .before .before .before .match .keys5, arm-BLN (now (a .widths)) (a .d) w p (st .pre .0 .twelve))
+    rw (c .before .before .before .before .before .before .match .keys5, arm-BLN (length (now (a .area))) (now (a .widths)) (descriptorOf (now (a .d))) w p (st .pre .0 .twelve))
     (plainly (all 2 2 takes (2 + length p)) (c .before .before .begin-line .result) (c .before .before .begin-line .last .0) _ stateOf (now (a .area)) (getD w 11 0) (passing (all 2 2 takes (2 + length p)) _ _ fit (c .before .before .begin-line .ensures)))
 
 returns-6 : tie.Need-returns-6
@@ -140,18 +158,18 @@ returns-6 c =
     let a = st .args in
     let w = now (a .w) in
     let p = now (a .p) in
-    rw (c .before .before .match .keys5, arm-BLN (now (a .widths)) (a .d) w p (st .pre .0 .twelve)) (unsized (all 2 2 takes (2 + length p)) _ (stateOf w) _ _ (sym (c .before .suits .ensures) ∙ c .if1 .left))
+    rw (c .before .before .match .keys5, arm-BLN (length (now (a .area))) (now (a .widths)) (descriptorOf (now (a .d))) w p (st .pre .0 .twelve)) (unsized (all 2 2 takes (2 + length p)) _ (stateOf w) _ _ (sym (c .before .suits .ensures) ∙ c .if1 .left))
 
 same-length-6 : tie.Need-same-length-6
 same-length-6 c = search needs
 
 returns-7 : tie.Need-returns-7
 returns-7 c =
-    let st = c .before .before .before .before .before .before .before .before .before in
+    let st = c .before .before .before .before .before .before .before .before .before .before in
     let a = st .args in
     let w = now (a .w) in
     let p = now (a .p) in
-    rw (c .before .before .before .before .match .keys6, arm-SIM (now (a .widths)) (a .d) w p (st .pre .0 .twelve))
+    rw (c .before .before .before .before .before .match .keys6, arm-SIM (length (now (a .area))) (now (a .widths)) (descriptorOf (now (a .d))) w p (st .pre .0 .twelve))
     (plainly (all 4 4 takes (2 + length p)) (c .before .before .try-number .result) (c .before .before .try-number .last .1 .1 .0) _ stateOf (now (a .area)) (getD w 11 0) (c .before .before .try-number .ensures))
 
 same-length-7 : tie.Need-same-length-7
@@ -159,11 +177,11 @@ same-length-7 c = search needs
 
 returns-8 : tie.Need-returns-8
 returns-8 c =
-    let st = c .before .before .before .before .before .before .before .before .before in
+    let st = c .before .before .before .before .before .before .before .before .before .before in
     let a = st .args in
     let w = now (a .w) in
     let p = now (a .p) in
-    rw (c .before .before .before .before .match .keys7, arm-SBI (now (a .widths)) (a .d) w p (st .pre .0 .twelve))
+    rw (c .before .before .before .before .before .match .keys7, arm-SBI (length (now (a .area))) (now (a .widths)) (descriptorOf (now (a .d))) w p (st .pre .0 .twelve))
     (plainly (all 4 4 takes (2 + length p)) (c .before .before .try-number2 .result) (c .before .before .try-number2 .last .1 .1 .0) _ stateOf (now (a .area)) (getD w 11 0) (c .before .before .try-number2 .ensures))
 
 same-length-8 : tie.Need-same-length-8
@@ -171,11 +189,11 @@ same-length-8 c = search needs
 
 returns-9 : tie.Need-returns-9
 returns-9 c =
-    let st = c .before .before .before .before .before .before .before .before .before in
+    let st = c .before .before .before .before .before .before .before .before .before .before .before in
     let a = st .args in
     let w = now (a .w) in
     let p = now (a .p) in
-    rw (c .before .before .before .before .match .keys8, arm-SIA (now (a .widths)) (a .d) w p (st .pre .0 .twelve))
+    rw (c .before .before .before .before .before .before .match .keys8, arm-SIA (length (now (a .area))) (now (a .widths)) (descriptorOf (now (a .d))) w p (st .pre .0 .twelve))
     (plainly (all 4 5 takes (2 + length p)) (c .before .before .try-adjustment .result) (c .before .before .try-adjustment .last .1 .1 .0) _ stateOf (now (a .area)) (getD w 11 0) (c .before .before .try-adjustment .ensures))
 
 same-length-9 : tie.Need-same-length-9
@@ -187,7 +205,7 @@ returns-10 c =
     let a = st .args in
     let w = now (a .w) in
     let p = now (a .p) in
-    rw (c .before .before .before .before .match .keys9, arm-SVI (now (a .widths)) (a .d) w p (st .pre .0 .twelve))
+    rw (c .before .before .before .before .match .keys9, arm-SVI (length (now (a .area))) (now (a .widths)) (descriptorOf (now (a .d))) w p (st .pre .0 .twelve))
     (plainly (all 4 4 takes (2 + length p)) (c .before .before .try-number3 .result) (c .before .before .try-number3 .last .1 .1 .0) _ stateOf (now (a .area)) (getD w 11 0) (c .before .before .try-number3 .ensures))
 
 same-length-10 : tie.Need-same-length-10
@@ -195,11 +213,11 @@ same-length-10 c = search needs
 
 returns-11 : tie.Need-returns-11
 returns-11 c =
-    let st = c .before .before .before .before .before .before .before .before .before in
+    let st = c .before .before .before .before .before .before .before .before .before .before in
     let a = st .args in
     let w = now (a .w) in
     let p = now (a .p) in
-    rw (c .before .before .before .before .match .keys10, arm-SCFL (now (a .widths)) (a .d) w p (st .pre .0 .twelve))
+    rw (c .before .before .before .before .before .match .keys10, arm-SCFL (length (now (a .area))) (now (a .widths)) (descriptorOf (now (a .d))) w p (st .pre .0 .twelve))
     (plainly (all 3 3 takes (2 + length p)) (c .before .before .try-font .result) (c .before .before .try-font .last .1 .1 .0) _ stateOf (now (a .area)) (getD w 11 0) (c .before .before .try-font .ensures))
 
 same-length-11 : tie.Need-same-length-11
@@ -207,11 +225,11 @@ same-length-11 c = search needs
 
 returns-12 : tie.Need-returns-12
 returns-12 c =
-    let st = c .before .before .before .before .before .before .before .before .before in
+    let st = c .before .before .before .before .before .before .before .before .before .before in
     let a = st .args in
     let w = now (a .w) in
     let p = now (a .p) in
-    rw (c .before .before .before .before .match .keys11, arm-STC (now (a .widths)) (a .d) w p (st .pre .0 .twelve))
+    rw (c .before .before .before .before .before .match .keys11, arm-STC (length (now (a .area))) (now (a .widths)) (descriptorOf (now (a .d))) w p (st .pre .0 .twelve))
     (plainly (all 4 5 takes (2 + length p)) (c .before .before .try-color .result) (c .before .before .try-color .last .1 .1 .0) _ stateOf (now (a .area)) (getD w 11 0) (c .before .before .try-color .ensures))
 
 returns-13 : tie.Need-returns-13
@@ -221,7 +239,7 @@ returns-13 c =
     let w = now (a .w) in
     let p = now (a .p) in
     let fit = sym (c .before .before .suits2 .ensures) ∙ c .before .if2 .taken in
-    rw (c .before .before .before .match .keys12, arm-STO (now (a .widths)) (a .d) w p (st .pre .0 .twelve))
+    rw (c .before .before .before .match .keys12, arm-STO (length (now (a .area))) (now (a .widths)) (descriptorOf (now (a .d))) w p (st .pre .0 .twelve))
     (plainly (all 6 6 takes (2 + length p)) (c .orientation .result) tt _ (λ _. stateOf w) (now (a .area)) (getD w 11 0) (passing (all 6 6 takes (2 + length p)) _ _ fit (c .orientation .ensures)))
 
 returns-14 : tie.Need-returns-14
@@ -230,7 +248,7 @@ returns-14 c =
     let a = st .args in
     let w = now (a .w) in
     let p = now (a .p) in
-    rw (c .before .before .match .keys12, arm-STO (now (a .widths)) (a .d) w p (st .pre .0 .twelve)) (unsized (all 6 6 takes (2 + length p)) _ (stateOf w) _ _ (sym (c .before .suits2 .ensures) ∙ c .if2 .left))
+    rw (c .before .before .match .keys12, arm-STO (length (now (a .area))) (now (a .widths)) (descriptorOf (now (a .d))) w p (st .pre .0 .twelve)) (unsized (all 6 6 takes (2 + length p)) _ (stateOf w) _ _ (sym (c .before .suits2 .ensures) ∙ c .if2 .left))
 
 same-length-12 : tie.Need-same-length-12
 same-length-12 c = search needs
@@ -241,7 +259,7 @@ returns-15 c =
     let a = st .args in
     let w = now (a .w) in
     let p = now (a .p) in
-    rw (c .before .before .before .before .match .keys13, arm-BSU (now (a .widths)) (a .d) w p (st .pre .0 .twelve))
+    rw (c .before .before .before .before .match .keys13, arm-BSU (length (now (a .area))) (now (a .widths)) (descriptorOf (now (a .d))) w p (st .pre .0 .twelve))
     (plainly (all 3 3 takes (2 + length p)) (c .before .before .try-begin .result) (c .before .before .try-begin .last .1 .1 .0) _ stateOf (now (a .area)) (getD w 11 0) (c .before .before .try-begin .ensures))
 
 same-length-13 : tie.Need-same-length-13
@@ -253,7 +271,7 @@ returns-16 c =
     let a = st .args in
     let w = now (a .w) in
     let p = now (a .p) in
-    rw (c .before .before .before .before .match .keys14, arm-ESU (now (a .widths)) (a .d) w p (st .pre .0 .twelve))
+    rw (c .before .before .before .before .match .keys14, arm-ESU (length (now (a .area))) (now (a .widths)) (descriptorOf (now (a .d))) w p (st .pre .0 .twelve))
     (plainly (all 3 3 takes (2 + length p)) (c .before .before .try-end .result) (c .before .before .try-end .last .1 .1 .0) _ stateOf (now (a .area)) (getD w 11 0) (c .before .before .try-end .ensures))
 
 same-length-14 : tie.Need-same-length-14
@@ -268,7 +286,7 @@ returns-17 c =
     let a = st .args in
     let w = now (a .w) in
     let p = now (a .p) in
-    rw (arm-rules (now (a .widths)) (a .d) w p (st .pre .0 .twelve) (a .function) _ (c .before .before .before .before .before .before .before .before .match .keys15) (c .before .before .before .before .before .before .before .mark-of .ensures)) (c .before .before .before .before .try-rule .ensures)
+    rw (arm-rules (length (now (a .area))) (now (a .widths)) (descriptorOf (now (a .d))) w p (st .pre .0 .twelve) (a .function) _ (c .before .before .before .before .before .before .before .before .match .keys15) (c .before .before .before .before .before .before .before .mark-of .ensures)) (c .before .before .before .before .try-rule .ensures)
 
 same-length-16 : tie.Need-same-length-16
 same-length-16 c = search needs
@@ -282,7 +300,7 @@ returns-18 c =
     let a = st .args in
     let w = now (a .w) in
     let p = now (a .p) in
-    rw (c .before .before .before .before .before .before .before .match .keys16, arm-RPS (now (a .widths)) (a .d) w p (st .pre .0 .twelve)) (c .before .before .before .before .repeat-string .ensures)
+    rw (c .before .before .before .before .before .before .before .match .keys16, arm-RPS (length (now (a .area))) (now (a .widths)) (descriptorOf (now (a .d))) w p (st .pre .0 .twelve)) (c .before .before .before .before .repeat-string .ensures)
 
 returns-19 : tie.Need-returns-19
 returns-19 c =
@@ -291,7 +309,7 @@ returns-19 c =
     let w = now (a .w) in
     let p = now (a .p) in
     let fit = sym (c .before .suits3 .ensures) ∙ c .if3 .taken in
-    rw (c .before .before .match .keys17, arm-NOP (now (a .widths)) (a .d) w p (st .pre .0 .twelve)) (sizing (all 2 255 takes (2 + length p)) _ _ _ _ _ fit (refl, refl))
+    rw (c .before .before .match .keys17, arm-NOP (length (now (a .area))) (now (a .widths)) (descriptorOf (now (a .d))) w p (st .pre .0 .twelve)) (sizing (all 2 255 takes (2 + length p)) _ _ _ _ _ fit (refl, refl))
 
 returns-20 : tie.Need-returns-20
 returns-20 c =
@@ -299,7 +317,7 @@ returns-20 c =
     let a = st .args in
     let w = now (a .w) in
     let p = now (a .p) in
-    rw (c .before .before .match .keys17, arm-NOP (now (a .widths)) (a .d) w p (st .pre .0 .twelve)) (unsized (all 2 255 takes (2 + length p)) _ (stateOf w) _ _ (sym (c .before .suits3 .ensures) ∙ c .if3 .left))
+    rw (c .before .before .match .keys17, arm-NOP (length (now (a .area))) (now (a .widths)) (descriptorOf (now (a .d))) w p (st .pre .0 .twelve)) (unsized (all 2 255 takes (2 + length p)) _ (stateOf w) _ _ (sym (c .before .suits3 .ensures) ∙ c .if3 .left))
 
 returns-21 : tie.Need-returns-21
 unfolding types
@@ -317,11 +335,17 @@ perform-spec =
     try-relative-requires-2
     suits-requires
     begin-line-requires
+    element-copy-out-try-number
     try-number-requires
+    element-copy-out-try-number-2
     try-number-requires-2
+    element-copy-out-try-adjustment
+    element-copy-out-try-adjustment-2
     try-adjustment-requires
     try-number-requires-3
+    element-copy-out-try-font
     try-font-requires
+    element-copy-out-try-color
     try-color-requires
     suits-requires-2
     orientation-requires

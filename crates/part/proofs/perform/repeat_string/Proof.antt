@@ -3,7 +3,7 @@
 use Rattle.part.proofs.Bytes.{tail-of}
 use Rattle.part.proofs.Cycles.{length-cycle}
 use Rattle.part.proofs.Shown.{text-none}
-use Rattle.part.specs.Code.{stateOf}
+use Rattle.part.specs.Code.{stateOf, descriptorOf}
 use Rattle.part.specs.Numbers.{if_then_else_, word}
 use Rattle.part.specs.Text.{cycle}
 use borrow.Author.Needs.{needs}
@@ -35,7 +35,7 @@ returns-2 c =
     let v = c .before .word-at .ensures .0 in
     let none = sym v ∙ c .if2 .taken in
     let fit = sym (c .before .before .before .suits .ensures) ∙ not-false (c .before .before .before .suits .result) (c .before .before .if1 .left) in
-    rw (fit, none, le-leb 0 (if ltb 2 (length p) then 0x7FFF else 0) (omega arith), text-none widths (a .d) (stateOf w) (cycle (drop 2 p) 0 0) (length-cycle (drop 2 p) 0 0)) (refl, refl)
+    rw (fit, none, le-leb 0 (if ltb 2 (length p) then 0x7FFF else 0) (omega arith), text-none (length (now (a .area))) widths (descriptorOf (now (a .d))) (stateOf w) (cycle (drop 2 p) 0 0) (length-cycle (drop 2 p) 0 0)) (refl, refl)
 
 returns-3 : tie.Need-returns-3
 returns-3 c =

@@ -1,4 +1,4 @@
--- `part::rules::record_rule` meets its contract: room for sixteen bytes, and the head is the whole record.
+-- `part::rules::record_rule` meets its contract: by the room for sixteen bytes.
 -- Assumes nothing.
 use Prim.Native.Nat.{_+_}
 use Rattle.part.proofs.Places.{used-set}
@@ -7,7 +7,7 @@ use Rattle.part.specs.Records.{bytesOf}
 use borrow.Author.Needs.{needs}
 use borrow.Author.Tests.{le-leb, lt-leb}
 use denote.Ref.{now}
-use lib.ListN.{getD}
+use lib.ListN.{length, getD}
 use mathlib.Core.Path.{refl, ap}
 use native.Mathlib.Omega.{arith}
 use Rattle.part.proofs.rules.record_rule.Statement.{statement}
@@ -19,11 +19,15 @@ slice-read-wide c = search needs
 wide-requires : tie.Need-wide-requires
 wide-requires c κs = search needs
 
+add-end : tie.Need-add-end
+add-end c = search needs
+
 returns : tie.Need-returns
 unfolding bytesOf
 returns c =
-    let u = getD (now (c .before .before .before .before .before .args .w)) 11 0 in
-    rw (lt-leb (u + 16) 4096 (omega (arith, c .before .wide .ensures .0))) (refl, refl)
+    let a = c .before .before .before .before .before .args in
+    let u = getD (now (a .w)) 11 0 in
+    rw (lt-leb (u + 16) (length (now (a .area))) (omega (arith, c .before .wide .ensures .0))) (refl, refl)
 
 slice-read-wide-2 : tie.Need-slice-read-wide-2
 slice-read-wide-2 c = search needs
@@ -43,17 +47,14 @@ slice-read-wide-4 c = search needs
 wide-requires-4 : tie.Need-wide-requires-4
 wide-requires-4 c κs = search needs
 
-add-w : tie.Need-add-w
-add-w c = search needs
+add-t14 : tie.Need-add-t14
+add-t14 c = search needs
 
-add-t18 : tie.Need-add-t18
-add-t18 c = search needs
+add-t19 : tie.Need-add-t19
+add-t19 c = search needs
 
 put-head-requires : tie.Need-put-head-requires
 put-head-requires c κs = search needs
-
-add-w-2 : tie.Need-add-w-2
-add-w-2 c = search needs
 
 cast-w : tie.Need-cast-w
 cast-w c = search needs
@@ -74,7 +75,7 @@ returns-2 c =
     let a = a0 .args in
     let w = now (a .w) in
     let u = getD w 11 0 in
-    rw (c .before .before .put-head .ensures, c .before .before .before .before .wide4 .ensures .0, c .before .before .before .before .before .before .wide3 .ensures .0, c .before .before .before .before .before .before .before .before .wide2 .ensures .0, c .before .before .before .before .before .before .before .before .before .before .before .wide .ensures .0, le-leb (u + 16) 4096 (omega (arith, c .before .before .before .before .before .before .before .before .before .before .before .wide .ensures .0))) (ap fine (used-set w (a0 .pre .0) (u + 16)), refl)
+    rw (c .before .before .put-head .ensures, c .before .before .before .before .wide4 .ensures .0, c .before .before .before .before .before .before .wide3 .ensures .0, c .before .before .before .before .before .before .before .before .wide2 .ensures .0, c .before .before .before .before .before .before .before .before .before .before .before .wide .ensures .0, le-leb (u + 16) (length (now (a .area))) (omega (arith, c .before .before .before .before .before .before .before .before .before .before .before .wide .ensures .0))) (ap fine (used-set w (a0 .pre .0) (u + 16)), refl)
 
 pub record-rule-spec : {M : Type 1} → statement M
 record-rule-spec =
@@ -82,6 +83,7 @@ record-rule-spec =
     (tie.spec
     slice-read-wide
     wide-requires
+    add-end
     returns
     slice-read-wide-2
     wide-requires-2
@@ -89,10 +91,9 @@ record-rule-spec =
     wide-requires-3
     slice-read-wide-4
     wide-requires-4
-    add-w
-    add-t18
+    add-t14
+    add-t19
     put-head-requires
-    add-w-2
     cast-w
     slice-write-w
     same-length

@@ -4,21 +4,20 @@ use Prim.Native.Nat.{_-_}
 use Rattle.part.proofs.Bytes.{tail-of}
 use Rattle.part.proofs.Nearer.{done-nearer, inked-nearer}
 use Rattle.part.proofs.Turns.{Here, start, refused, faulted, faulted-nearer, turn, ended, ran-fault, not-nought, text-step, sequence-step, text-placed}
-use Rattle.part.specs.Code.{nearer, stateOf, stateAfter, inked, performed}
+use Rattle.part.specs.Code.{nearer, stateOf, stateAfter, inked, performed, descriptorOf, placedIn}
 use Rattle.part.specs.Elements.{Text}
-use Rattle.part.specs.Part.{placed}
 use Rattle.part.specs.Reading.{between}
 use borrow.Author.Needs.{needs}
 use denote.Ref.{now}
 use lib.ListN.{length, take, drop, getD, length-drop}
 use lib.Seq.{length-take-le}
-use mathlib.Core.Path.{_≡_, sym, _∙_, ap}
+use mathlib.Core.Path.{_≡_, _∙_, ap}
 use native.Mathlib.Omega.{arith}
 use Rattle.part.proofs.run.run.Statement.{statement}
 use Rattle.part.proofs.run.run.Tie as tie
 
 abbrev Inv-loop : tie.InvT-loop
-Inv-loop part widths area₀ d w₀ at₀ count₀ area w at count = Here widths d part w₀ area₀ area w at count
+Inv-loop part widths area₀ d w₀ at₀ count₀ area w at count = Here (length area₀) widths (descriptorOf d) part w₀ area₀ area w at count
 
 abbrev μ-loop : tie.MeasureT-loop
 μ-loop part widths area₀ d w₀ at₀ count₀ area w at count = length part - at
@@ -27,7 +26,7 @@ loop-holds : tie.Need-loop-holds Inv-loop μ-loop
 loop-holds c =
     let st = c .before .before .before .before in
     let a = st .args in
-    start (now (a .widths)) (a .d) (now (a .part)) (now (a .w)) (now (a .area)) (st .pre .0)
+    start (now (a .widths)) (descriptorOf (now (a .d))) (now (a .part)) (now (a .w)) (now (a .area)) (st .pre .0)
 
 sub-rest : tie.Need-sub-rest Inv-loop μ-loop
 sub-rest c = search needs
@@ -75,7 +74,7 @@ same-length c =
     let w = l .loop .w in
     let at = l .loop .at in
     let here = l .loop .inv in
-    omega (arith, here .ready .whole, st .pre .0 .whole)
+    omega (arith, here .long)
 
 same-length-2 : tie.Need-same-length-2 Inv-loop μ-loop
 same-length-2 c =
@@ -102,7 +101,7 @@ returns c =
     let found = c .before .found .given .1 in
     let read = rw found at (c .before .before .before .read-element .ensures .0) in
     let inside = rw found at (c .before .before .before .read-element .ensures .1) in
-    (ran-fault _ _ _ _ _ at (l .loop .count) _ _ (λ e. omega (arith, inside)) (refused (now (a .widths)) (a .d) part (now (a .w)) (now (a .area)) (l .loop .area) w at (l .loop .count) here (c .before .before .before .before .before .before .loop-test .taken) _ _ inside (rw tail at read)), (omega (arith, here .within, st .pre .1 .1), omega (arith, here .within, here .fewer, st .pre .1 .1)))
+    (ran-fault _ _ _ _ _ at (l .loop .count) _ _ (λ e. omega (arith, inside)) (refused (length (now (a .area))) (now (a .widths)) (descriptorOf (now (a .d))) part (now (a .w)) (now (a .area)) (l .loop .area) w at (l .loop .count) here (c .before .before .before .before .before .before .loop-test .taken) _ _ inside (rw tail at read)), (omega (arith, here .within, st .pre .1 .1), omega (arith, here .within, here .fewer, st .pre .1 .1)))
 
 enum-known-found-2 : tie.Need-enum-known-found-2 Inv-loop μ-loop
 enum-known-found-2 c = search needs
@@ -202,11 +201,11 @@ returns-2 c =
     let s = stateOf w in
     let widths = now (a .widths) in
     let t = between (drop at part) (x .0) (x .1 .0) in
-    let step = text-step widths (a .d) s (getD w 10 0) (drop at part) t (x .1 .0) (x .1 .1 .0) (rw tail at read) in
-    let e = text-placed widths (a .d) s t in
-    let told = rw tail at (c .before .before .before .before .before .show-plain .ensures) in
+    let step = text-step (length (now (a .area))) widths (descriptorOf (now (a .d))) s (getD w 10 0) (drop at part) t (x .1 .0) (x .1 .1 .0) (rw tail at read) in
+    let e = text-placed (length (now (a .area))) widths (descriptorOf (now (a .d))) s t in
+    let told = rw (tail, here .long) at (c .before .before .before .before .before .show-plain .ensures) in
     let state = told .0 ∙ ap stateAfter e in
-    (ran-fault _ _ _ _ _ at (l .loop .count) _ _ (c .if1 .taken) (faulted widths (a .d) part (now (a .w)) (now (a .area)) (l .loop .area) w at (l .loop .count) here (c .before .before .before .before .before .before .before .before .before .before .before .before .before .before .before .loop-test .taken) _ (x .1 .1 .0) _ _ _ step (c .if1 .taken) state), (omega (arith, here .within, st .pre .1 .1), omega (arith, here .within, here .fewer, st .pre .1 .1)))
+    (ran-fault _ _ _ _ _ at (l .loop .count) _ _ (c .if1 .taken) (faulted (length (now (a .area))) widths (descriptorOf (now (a .d))) part (now (a .w)) (now (a .area)) (l .loop .area) w at (l .loop .count) here (c .before .before .before .before .before .before .before .before .before .before .before .before .before .before .before .loop-test .taken) _ (x .1 .1 .0) _ _ _ step (c .if1 .taken) state), (omega (arith, here .within, st .pre .1 .1), omega (arith, here .within, here .fewer, st .pre .1 .1)))
 
 slice-write-w : tie.Need-slice-write-w Inv-loop μ-loop
 slice-write-w c = search needs
@@ -281,12 +280,12 @@ loop-again c =
     let s = stateOf w in
     let widths = now (a .widths) in
     let t = between (drop at part) (x .0) (x .1 .0) in
-    let step = text-step widths (a .d) s (getD w 10 0) (drop at part) t (x .1 .0) (x .1 .1 .0) (rw tail at read) in
-    let e = text-placed widths (a .d) s t in
-    let told = rw tail at (c .before .before .before .before .before .show-plain .ensures) in
+    let step = text-step (length (now (a .area))) widths (descriptorOf (now (a .d))) s (getD w 10 0) (drop at part) t (x .1 .0) (x .1 .1 .0) (rw tail at read) in
+    let e = text-placed (length (now (a .area))) widths (descriptorOf (now (a .d))) s t in
+    let told = rw (tail, here .long) at (c .before .before .before .before .before .show-plain .ensures) in
     let state = told .0 ∙ ap stateAfter e in
     let ink = told .1 ∙ ap (inked (l .loop .area) (getD w 11 0)) e in
-    turn widths (a .d) part (now (a .w)) (now (a .area)) (l .loop .area) w at (l .loop .count) here (c .before .before .before .before .before .before .before .before .before .before .before .before .before .before .before .loop-test .taken) (x .1 .0) (x .1 .1 .0) (placed widths (a .d) s (Text t)) (c .before .before .before .before .before .show-plain .last .1 .1 .1 .1 .0) (c .before .before .before .before .before .show-plain .last .1 .1 .0) step (st .pre .1 .0) (omega (arith, here .ready .twelve)) (omega (arith, here .ready .whole)) (rw (c .if1 .left) at state) ink
+    turn (length (now (a .area))) widths (descriptorOf (now (a .d))) part (now (a .w)) (now (a .area)) (l .loop .area) w at (l .loop .count) here (c .before .before .before .before .before .before .before .before .before .before .before .before .before .before .before .loop-test .taken) (x .1 .0) (x .1 .1 .0) (placedIn (length (now (a .area))) widths (descriptorOf (now (a .d))) s (Text t)) (c .before .before .before .before .before .show-plain .last .1 .1 .1 .1 .0) (c .before .before .before .before .before .show-plain .last .1 .1 .0) step (st .pre .1 .0) (omega (arith, here .ready .twelve)) (omega (arith, here .long)) (rw (c .if1 .left) at state) ink
 
 enum-known-found-3 : tie.Need-enum-known-found-3 Inv-loop μ-loop
 enum-known-found-3 c = search needs
@@ -392,10 +391,10 @@ returns-3 c =
     let p = between (drop at part) (x .1 .0) (x .1 .1 .0) in
     let s = stateOf w in
     let begins = inside .1 .1 .1 .1 .0 in
-    let step = sequence-step (now (a .widths)) (a .d) s (getD w 10 0) (drop at part) (x .1 .0) (x .0) (x .1 .1 .0) (x .1 .1 .1 .0) p (begins .0) (begins .1) (rw tail at read) in
-    let done = rw tail at (c .before .before .before .before .before .before .perform .ensures) in
-    let stop = faulted-nearer (now (a .widths)) (a .d) part (now (a .w)) (now (a .area)) (l .loop .area) w at (l .loop .count) here (c .before .before .before .before .before .before .before .before .before .before .before .before .before .before .before .before .loop-test .taken) (4 - x .1 .0) (x .1 .1 .0) (x .1 .1 .1 .0) (performed (now (a .widths)) (a .d) s (x .0) p) _ _ _ step (c .before .if2 .taken) (done .0) (c .nearer .ensures) in
-    (ran-fault _ _ _ _ _ at (l .loop .count) _ _ (not-nought (now (a .widths)) (a .d) (stateOf (now (a .w))) (getD (now (a .w)) 10 0) part _ _ (st .pre .1 .0) stop) stop, (omega (arith, here .within, st .pre .1 .1), omega (arith, here .within, here .fewer, st .pre .1 .1)))
+    let step = sequence-step (length (now (a .area))) (now (a .widths)) (descriptorOf (now (a .d))) s (getD w 10 0) (drop at part) (x .1 .0) (x .0) (x .1 .1 .0) (x .1 .1 .1 .0) p (begins .0) (begins .1) (rw tail at read) in
+    let done = rw (tail, here .long) at (c .before .before .before .before .before .before .perform .ensures) in
+    let stop = faulted-nearer (length (now (a .area))) (now (a .widths)) (descriptorOf (now (a .d))) part (now (a .w)) (now (a .area)) (l .loop .area) w at (l .loop .count) here (c .before .before .before .before .before .before .before .before .before .before .before .before .before .before .before .before .loop-test .taken) (4 - x .1 .0) (x .1 .1 .0) (x .1 .1 .1 .0) (performed (length (now (a .area))) (now (a .widths)) (descriptorOf (now (a .d))) s (x .0) p) _ _ _ step (c .before .if2 .taken) (done .0) (c .nearer .ensures) in
+    (ran-fault _ _ _ _ _ at (l .loop .count) _ _ (not-nought (length (now (a .area))) (now (a .widths)) (descriptorOf (now (a .d))) (stateOf (now (a .w))) (getD (now (a .w)) 10 0) part _ _ (st .pre .1 .0) stop) stop, (omega (arith, here .within, st .pre .1 .1), omega (arith, here .within, here .fewer, st .pre .1 .1)))
 
 slice-write-w-2 : tie.Need-slice-write-w-2 Inv-loop μ-loop
 slice-write-w-2 c = search needs
@@ -471,10 +470,10 @@ loop-again-2 c =
     let s = stateOf w in
     let begins = inside .1 .1 .1 .1 .0 in
     let by = 4 - x .1 .0 in
-    let q = performed (now (a .widths)) (a .d) s (x .0) p in
-    let step = sequence-step (now (a .widths)) (a .d) s (getD w 10 0) (drop at part) (x .1 .0) (x .0) (x .1 .1 .0) (x .1 .1 .1 .0) p (begins .0) (begins .1) (rw tail at read) in
-    let done = rw tail at (c .before .before .before .before .before .perform .ensures) in
-    turn (now (a .widths)) (a .d) part (now (a .w)) (now (a .area)) (l .loop .area) w at (l .loop .count) here (c .before .before .before .before .before .before .before .before .before .before .before .before .before .before .before .loop-test .taken) (x .1 .1 .0) (x .1 .1 .1 .0) (nearer by q) (c .before .before .before .before .before .perform .last .1 .1 .1 .1 .1 .0) (c .before .before .before .before .before .perform .last .1 .1 .1 .0) step (st .pre .1 .0) (omega (arith, here .ready .twelve)) (omega (arith, here .ready .whole)) (done-nearer by q _ (rw (c .if2 .left) at (done .0))) (done .1 ∙ inked-nearer by q _ _)
+    let q = performed (length (now (a .area))) (now (a .widths)) (descriptorOf (now (a .d))) s (x .0) p in
+    let step = sequence-step (length (now (a .area))) (now (a .widths)) (descriptorOf (now (a .d))) s (getD w 10 0) (drop at part) (x .1 .0) (x .0) (x .1 .1 .0) (x .1 .1 .1 .0) p (begins .0) (begins .1) (rw tail at read) in
+    let done = rw (tail, here .long) at (c .before .before .before .before .before .perform .ensures) in
+    turn (length (now (a .area))) (now (a .widths)) (descriptorOf (now (a .d))) part (now (a .w)) (now (a .area)) (l .loop .area) w at (l .loop .count) here (c .before .before .before .before .before .before .before .before .before .before .before .before .before .before .before .loop-test .taken) (x .1 .1 .0) (x .1 .1 .1 .0) (nearer by q) (c .before .before .before .before .before .perform .last .1 .1 .1 .1 .1 .0) (c .before .before .before .before .before .perform .last .1 .1 .1 .0) step (st .pre .1 .0) (omega (arith, here .ready .twelve)) (omega (arith, here .long)) (done-nearer by q _ (rw (c .if2 .left) at (done .0))) (done .1 ∙ inked-nearer by q _ _)
 
 same-length-7 : tie.Need-same-length-7 Inv-loop μ-loop
 same-length-7 c = search needs
@@ -491,7 +490,7 @@ returns-4 c =
     let w = l .loop .w in
     let at = l .loop .at in
     let here = l .loop .inv in
-    (ended (now (a .widths)) (a .d) part (now (a .w)) (now (a .area)) (l .loop .area) w at (l .loop .count) here (c .loop-test .left), (omega (arith, here .within, st .pre .1 .1), omega (arith, here .within, here .fewer, st .pre .1 .1)))
+    (ended (length (now (a .area))) (now (a .widths)) (descriptorOf (now (a .d))) part (now (a .w)) (now (a .area)) (l .loop .area) w at (l .loop .count) here (c .loop-test .left), (omega (arith, here .within, st .pre .1 .1), omega (arith, here .within, here .fewer, st .pre .1 .1)))
 
 pub run-spec : {M : Type 1} → statement M
 run-spec =

@@ -30,7 +30,7 @@ returns : tie.Need-returns
 returns c =
     let a = c .before .before .before .before .before .before .args in
     let w = now (a .w) in
-    rw (text-full (stateOf w) (a .i) (now (a .t)) (omega (arith, c .before .wide .ensures .0))) (refl, refl)
+    rw (text-full (length (now (a .area))) (stateOf w) (a .i) (now (a .t)) (omega (arith, c .before .wide .ensures .0))) (refl, refl)
 
 text-head-requires : tie.Need-text-head-requires
 text-head-requires c κs = search needs
@@ -71,10 +71,10 @@ returns-2 c =
     let cs = now (a .t) in
     let used = c .before .before .before .before .before .before .before .before .before .before .before .wide .result in
     let u = c .before .before .before .before .before .before .before .before .before .before .before .wide .ensures .0 in
-    let fits = text-fits (stateOf w) (a .i) cs (omega (arith, u)) in
+    let fits = text-fits (length area) (stateOf w) (a .i) cs (omega (arith, u)) in
     let h = c .before .before .before .before .before .before .before .text-head .result in
     let stored = more area (c .before .before .before .before .before .before .put-head .last .0) (c .before .before .store-text .last .0) used (headBytes h) cs (c .before .before .before .before .before .before .put-head .ensures) (c .before .before .store-text .ensures) in
-    rw fits (ap fine (text-set w (st .pre .0) (a .i) (used + 16 + length cs) (getD w 11 0 + 16 + length cs) (omega (arith, u))), stored ∙ recorded-text area (stateOf w) used (a .i) cs h u (c .before .before .before .before .before .before .before .text-head .ensures))
+    rw fits (ap fine (text-set w (st .pre .0) (a .i) (used + 16 + length cs) (getD w 11 0 + 16 + length cs) (omega (arith, u))), stored ∙ recorded-text area (stateOf w) used cs h u (c .before .before .before .before .before .before .before .text-head .ensures))
 
 pub record-plain-spec : {M : Type 1} → statement M
 record-plain-spec =

@@ -33,7 +33,7 @@ returns c =
     let a = c .before .before .before .before .before .before .args in
     let w = now (a .w) in
     let cs = cycle (now (a .t)) 0 (a .count) in
-    rw (text-full (stateOf w) (a .i) cs (omega (arith, length-cycle (now (a .t)) 0 (a .count), c .before .wide .ensures .0))) (refl, refl)
+    rw (text-full (length (now (a .area))) (stateOf w) (a .i) cs (omega (arith, length-cycle (now (a .t)) 0 (a .count), c .before .wide .ensures .0))) (refl, refl)
 
 text-head-requires : tie.Need-text-head-requires
 text-head-requires c κs = search needs
@@ -75,11 +75,11 @@ returns-2 c =
     let long = length-cycle (now (a .t)) 0 (a .count) in
     let used = c .before .before .before .before .before .before .before .before .before .before .before .wide .result in
     let u = c .before .before .before .before .before .before .before .before .before .before .before .wide .ensures .0 in
-    let fits = text-fits (stateOf w) (a .i) cs (omega (arith, long, u)) in
+    let fits = text-fits (length area) (stateOf w) (a .i) cs (omega (arith, long, u)) in
     let h = c .before .before .before .before .before .before .before .text-head .result in
     let same = c .before .before .before .before .before .before .before .text-head .ensures ∙ ap (headOf (stateOf w)) (sym long) in
     let stored = more area (c .before .before .before .before .before .before .put-head .last .0) (c .before .before .draw .last .0) used (headBytes h) cs (c .before .before .before .before .before .before .put-head .ensures) (c .before .before .draw .ensures) in
-    rw fits (ap fine (text-set w (st .pre .0) (a .i) (used + 16 + a .count) (getD w 11 0 + 16 + length cs) (omega (arith, long, u))), stored ∙ recorded-text area (stateOf w) used (a .i) cs h u same)
+    rw fits (ap fine (text-set w (st .pre .0) (a .i) (used + 16 + a .count) (getD w 11 0 + 16 + length cs) (omega (arith, long, u))), stored ∙ recorded-text area (stateOf w) used cs h u same)
 
 pub record-text-spec : {M : Type 1} → statement M
 record-text-spec =

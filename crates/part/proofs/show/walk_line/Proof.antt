@@ -2,7 +2,7 @@
 -- Assumes nothing.
 use Prim.Native.Nat.{_+_, _-_, _*_}
 use Rattle.part.proofs.Texts.{Follows, characters-along, bytes-cycle, row-cut, row-length}
-use Rattle.part.specs.Code.{stateOf}
+use Rattle.part.specs.Code.{stateOf, descriptorOf}
 use Rattle.part.specs.Text.{cycle}
 use Rattle.part.specs.declared.text.Line.{Line}
 use borrow.Author.Needs.{needs}
@@ -47,6 +47,9 @@ cast-own c = omega (arith, c .shared-slice-known5 .given 64)
 shared-slice-read-line-of : tie.Need-shared-slice-read-line-of
 shared-slice-read-line-of c = search needs
 
+element-copy-out-line-of : tie.Need-element-copy-out-line-of
+element-copy-out-line-of c = search needs
+
 shared-slice-read-line-of-2 : tie.Need-shared-slice-read-line-of-2
 shared-slice-read-line-of-2 c = search needs
 
@@ -64,18 +67,6 @@ wide-requires-2 c κs = search needs
 
 present-requires : tie.Need-present-requires
 present-requires c κs =
-    let st = c .before .before .before .before .before .before .before .before .before .before .before .before .before in
-    let a = st .args in
-    let w = now (a .w) in
-    let widths = now (a .widths) in
-    let font = getD w 6 0 in
-    let f = c .before .before .before .before .before .before .before .before .wide in
-    let cut = row-cut widths font (f .result) (f .ensures .0) in
-    let l = c .before .before .line-of in
-    (ap length cut ∙ row-length widths font (st .pre .0 .1 .0) (st .pre .0 .1 .1), (l .ensures .1 .space, (l .ensures .1 .limit, (l .ensures .1 .plus, (l .ensures .1 .minus, (c .wide2 .ensures .1, st .pre .1 .0))))))
-
-returns : tie.Need-returns
-returns c =
     let st = c .before .before .before .before .before .before .before .before .before .before .before .before .before .before in
     let a = st .args in
     let w = now (a .w) in
@@ -83,11 +74,23 @@ returns c =
     let font = getD w 6 0 in
     let f = c .before .before .before .before .before .before .before .before .before .wide in
     let cut = row-cut widths font (f .result) (f .ensures .0) in
+    let l = c .before .before .line-of in
+    (ap length cut ∙ row-length widths font (st .pre .0 .1 .0) (st .pre .0 .1 .1), (l .ensures .1 .space, (l .ensures .1 .limit, (l .ensures .1 .plus, (l .ensures .1 .minus, (c .wide2 .ensures .1, st .pre .1 .0))))))
+
+returns : tie.Need-returns
+returns c =
+    let st = c .before .before .before .before .before .before .before .before .before .before .before .before .before .before .before in
+    let a = st .args in
+    let w = now (a .w) in
+    let widths = now (a .widths) in
+    let font = getD w 6 0 in
+    let f = c .before .before .before .before .before .before .before .before .before .before .wide in
+    let cut = row-cut widths font (f .result) (f .ensures .0) in
     let l = c .before .before .before .line-of in
     let e = l .ensures .0 in
     let t = now (a .t) in
     let row = take (256 * f .result + 256 - 256 * f .result) (drop (256 * f .result) widths) in
-    let follows : Follows widths row (a .d) (stateOf w) (l .result) = record {
+    let follows : Follows widths row (descriptorOf (now (a .d))) (stateOf w) (l .result) = record {
       font = cut;
       space = ap (λ (x : Line). x .space) e;
       shown = ap (λ (x : Line). x .shown) e ∙ ap not (st .pre .1 .1 .0);
@@ -95,8 +98,8 @@ returns c =
       plus = ap (λ (x : Line). x .plus) e;
       minus = ap (λ (x : Line). x .minus) e;
     } in
-    let bytes = bytes-cycle t 0 (a .count) (λ k. omega (arith, c .before .before .before .before .before .before .before .before .before .before .before .before .before .shared-slice-known .given k)) in
-    (rw (c .present .ensures .0, c .before .wide2 .ensures .0) (sym (characters-along widths row (a .d) (stateOf w) (l .result) follows (st .pre .1 .1 .1) (getD w 0 0) (cycle t 0 (a .count)) bytes)), c .present .ensures .1)
+    let bytes = bytes-cycle t 0 (a .count) (λ k. omega (arith, c .before .before .before .before .before .before .before .before .before .before .before .before .before .before .shared-slice-known .given k)) in
+    (rw (c .present .ensures .0, c .before .wide2 .ensures .0) (sym (characters-along widths row (descriptorOf (now (a .d))) (stateOf w) (l .result) follows (st .pre .1 .1 .1) (getD w 0 0) (cycle t 0 (a .count)) bytes)), c .present .ensures .1)
 
 pub walk-line-spec : {M : Type 1} → statement M
 walk-line-spec =
@@ -113,6 +116,7 @@ walk-line-spec =
     shared-slice-read-own
     cast-own
     shared-slice-read-line-of
+    element-copy-out-line-of
     shared-slice-read-line-of-2
     shared-slice-read-line-of-3
     line-of-requires
