@@ -3,7 +3,7 @@ use part::shapes::{Answer, Descriptor, State};
 
 // One slot's entry: every number is 32 bits, with no gap, so that any lent bytes are an entry. The mark is 0 when the job is closed.
 #[repr(C)]
-#[derive(Drop)]
+#[derive(Clone, Copy)]
 pub struct Entry {
     pub key: u32,
     pub mark: u32,
@@ -15,7 +15,7 @@ pub struct Entry {
 
 // A request's entry afterwards, and its answer.
 #[repr(C)]
-#[derive(Drop)]
+#[derive(Clone, Copy)]
 pub struct Out {
     pub entry: Entry,
     pub answer: Answer,

@@ -1,6 +1,6 @@
 -- How the code's numbers stand for the rule book's values: what the contracts inside this crate cite, and no rule.
 use Rattle.std.specs.Prelude.{ℕ, zero, suc, ◌+◌, ◌-◌, ◌/◌, ◌%◌, ◌<◌, ◌≤◌, ◌≡◌, Bool, true, not, ◌&&◌, ◌||◌, List, [], ◌∷◌, ◌++◌, length, take, drop, get_or, ltb, leb, eqb}
-use Rattle.std.specs.Borrow.{Bor}
+use Rattle.std.specs.Borrow.{MutBor}
 use denote.Triple.Both.{Both}
 use Rattle.std.proofs.lemmas.List.Edits.{sets}
 use Rattle.part.specs.Numbers.{if◌then◌else◌, origin, last, ones, byte, word, little}
@@ -95,7 +95,7 @@ inked area used (fault code at) = area
 
 -- a slice that is lent to be changed, at entry and at exit
 abbrev pub Lent : Type 0
-Lent = Both (Bor (List ℕ)) (Bor (List ℕ))
+Lent = Both (MutBor (List ℕ)) (MutBor (List ℕ))
 
 -- a function that is lent the working state and the area does an effect: its verdict on the state that it leaves, and the records at the bytes used
 abbrev pub Does : (State → Checked Effect) → ℕ → Lent → Lent → Type 0

@@ -8,7 +8,7 @@ use super::bools::both;
 pub const ORIGIN: usize = 32768;
 
 // Where a move or some characters come to stand; or a refusal.
-#[derive(Drop)]
+#[derive(Clone, Copy)]
 pub struct Reached {
     pub fault: u32,
     pub at: usize,

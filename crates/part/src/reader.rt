@@ -7,7 +7,7 @@ use super::faults::NO_CLASS;
 use super::types::{misfit, split};
 
 // An element. All numbers count from its first byte.
-#[derive(Drop)]
+#[derive(Clone, Copy)]
 pub enum Read {
     // Characters, a free run's or a TRN's: where they begin, the element's size, and 1 where it chains the next.
     Characters {

@@ -8,7 +8,7 @@ use super::little::{eight_at, four_of, put_eight};
 use super::numbers::lesser;
 
 // The eight numbers that either kind of record begins with.
-#[derive(Drop)]
+#[derive(Clone, Copy)]
 pub struct Head {
     pub len: usize,
     pub kind: usize,

@@ -10,7 +10,7 @@ use super::show::show_plain;
 use super::working::CHAIN;
 
 // How a run ended: the refusal, or 0, counted from its element; the offset of the element at fault; how many elements were passed.
-#[derive(Drop)]
+#[derive(Clone, Copy)]
 pub struct Outcome {
     pub fault: u32,
     pub at: usize,

@@ -7,7 +7,7 @@ use super::numbers::{LAST, lesser};
 use super::presenting::{ORIGIN, Reached};
 
 // What does not change within an element: the width of X'40', whether characters are shown, the end of the sheet along I, the adjustment.
-#[derive(Drop)]
+#[derive(Clone, Copy)]
 pub struct Line {
     pub space: usize,
     pub shown: bool,

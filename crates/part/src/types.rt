@@ -7,7 +7,7 @@ ghost use Rattle.part.specs.Code.{verdict, lengths_in, cut_short};
 use super::bools::both;
 
 // LENGTHs from the least to the greatest, but for those of a hole (0 and 0: none).
-#[derive(Drop)]
+#[derive(Clone, Copy)]
 pub struct Span {
     pub least: u8,
     pub greatest: u8,
@@ -16,11 +16,11 @@ pub struct Span {
 }
 
 // A row: TYPE without its low bit, and its LENGTHs.
-#[derive(Drop)]
+#[derive(Clone, Copy)]
 pub struct TypeRow(pub u8, pub Span);
 
 // A TYPE byte taken apart: the function code, and 1 where it chains the next sequence.
-#[derive(Drop)]
+#[derive(Clone, Copy)]
 pub struct Kind {
     pub function: u8,
     pub chains: u8,

@@ -6,7 +6,7 @@ use part::shapes::{Answer, State};
 use part::whole::little_at;
 
 // What a row has beside its answer: nothing, the B that was reached, or the characters that were recorded.
-#[derive(Drop)]
+#[derive(Clone, Copy)]
 pub enum Beside {
     Nothing,
     Baseline,

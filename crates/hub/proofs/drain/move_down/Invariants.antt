@@ -1,0 +1,15 @@
+-- `hub::drain::move_down` meets its contract. The invariant: the first k bytes are moved.
+use Prim.Native.Nat.{◌+◌, ◌-◌, ◌≤◌}
+use Rattle.hub.proofs.Moving.{move_some, all_moved}
+use lib.ListN.{length, take, drop}
+use lib.Seq.{sets, length-sets}
+use mathlib.Core.Path.{◌≡◌, refl, sym, ◌∙◌, ap}
+use native.Mathlib.Nat.{zero-add}
+use native.Mathlib.Omega.{arith}
+use Rattle.hub.proofs.drain.move_down.Given as goal
+
+abbrev pub invariant-loop-k : goal.invariant-loop-k
+invariant-loop-k l = (l.k ≤ l.n) × (l.area ≡ sets l.initial.area 0 (take l.k (drop l.from l.initial.area)))
+
+abbrev pub decreases-loop-k : goal.decreases-loop-k
+decreases-loop-k l = l.n - l.k

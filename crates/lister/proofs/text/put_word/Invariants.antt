@@ -1,0 +1,14 @@
+-- `lister::text::put_word` meets its contract. The invariant: the first k characters are put.
+use Prim.Native.Nat.{◌-◌, ◌≤◌}
+use Rattle.part.proofs.Stores.{one_more, all_of}
+use lib.ListN.{length, take}
+use lib.Seq.{sets, length-sets}
+use mathlib.Core.Path.{◌≡◌, refl, ◌∙◌, ap}
+use native.Mathlib.Omega.{arith}
+use Rattle.lister.proofs.text.put_word.Given as goal
+
+abbrev pub invariant-loop-k : goal.invariant-loop-k
+invariant-loop-k l = (l.k ≤ length l.word) × (l.out ≡ sets l.initial.out l.at (take l.k l.word))
+
+abbrev pub decreases-loop-k : goal.decreases-loop-k
+decreases-loop-k l = length l.word - l.k

@@ -1,0 +1,14 @@
+-- `part::record::copy_on` meets its contract. The invariant: the first k bytes are copied.
+use Prim.Native.Nat.{◌-◌, ◌≤◌}
+use Rattle.part.proofs.Stores.{copy_one}
+use borrow.Author.Rules.{rules}
+use lib.ListN.{length, take, drop}
+use lib.Seq.{sets, length-sets}
+use mathlib.Core.Path.{◌≡◌, refl, ◌∙◌, ap}
+use native.Mathlib.Omega.{arith}
+use Rattle.part.proofs.record.copy_on.Goals as goal
+
+pub loop-k-preserved : goal.loop-k-preserved
+loop-k-preserved c =
+    let a = c.args in
+    (search rules, rw c.loop-k.invariant.1 (copy_one a.area.now a.from a.to a.n c.requires.0 c.requires.1 c.loop-k.k c.loop-k-test.true))

@@ -1,0 +1,14 @@
+-- `part::record::copy_on` meets its contract. The invariant: the first k bytes are copied.
+use Prim.Native.Nat.{◌-◌, ◌≤◌}
+use Rattle.part.proofs.Stores.{copy_one}
+use lib.ListN.{length, take, drop}
+use lib.Seq.{sets, length-sets}
+use mathlib.Core.Path.{◌≡◌, refl, ◌∙◌, ap}
+use native.Mathlib.Omega.{arith}
+use Rattle.part.proofs.record.copy_on.Given as goal
+
+abbrev pub invariant-loop-k : goal.invariant-loop-k
+invariant-loop-k l = (l.k ≤ l.n) × (l.area ≡ sets l.initial.area l.to (take l.k (drop l.from l.initial.area)))
+
+abbrev pub decreases-loop-k : goal.decreases-loop-k
+decreases-loop-k l = l.n - l.k

@@ -1,0 +1,36 @@
+-- `part::show::record_text` meets its contract: by the room for the record; the head, and then the characters, are the record.
+use Prim.Native.Nat.{◌+◌}
+use Rattle.part.proofs.Cycles.{length-cycle}
+use Rattle.part.proofs.Inks.{text_full, text_fits, recorded_text}
+use Rattle.part.proofs.Places.{text_set}
+use Rattle.part.proofs.Stores.{more}
+use Rattle.part.specs.Checks.{fine}
+use Rattle.part.specs.Code.{state_of, head_of, head_bytes}
+use Rattle.part.specs.Text.{cycle}
+use borrow.Author.Rules.{rules}
+use lib.ListN.{length, get_or, length-set}
+use mathlib.Core.Path.{refl, sym, ◌∙◌, ap}
+use native.Mathlib.Omega.{arith}
+use Rattle.part.proofs.show.record_text.Goals as goal
+
+pub returns-then-area-end : goal.returns-then-area-end
+returns-then-area-end c =
+    let a = c.args in
+    let w = a.w.now in
+    let cs = cycle a.t.now 0 a.count in
+    rw (text_full (length a.area.now) (state_of w) a.i cs (omega (arith, length-cycle a.t.now 0 a.count, c.wide-used.ensures.0))) (refl, refl)
+
+pub returns : goal.returns
+returns c =
+    let a = c.args in
+    let w = a.w.now in
+    let area = a.area.now in
+    let cs = cycle a.t.now 0 a.count in
+    let long = length-cycle a.t.now 0 a.count in
+    let used = c.wide-used.result in
+    let u = c.wide-used.ensures.0 in
+    let fits = text_fits (length area) (state_of w) a.i cs (omega (arith, long, u)) in
+    let h = c.text_Head.result in
+    let same = c.text_Head.ensures ∙ ap (head_of (state_of w)) (sym long) in
+    let stored = more area c.put_head.new.0 c.draw.new.0 used (head_bytes h) cs c.put_head.ensures c.draw.ensures in
+    rw fits (ap fine (text_set w c.requires.0 a.i (used + 16 + a.count) (get_or w 11 0 + 16 + length cs) (omega (arith, long, u))), stored ∙ recorded_text area (state_of w) used cs h u same)
