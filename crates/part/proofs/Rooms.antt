@@ -7,7 +7,7 @@ use mathlib.Core.List.{List, [], ◌∷◌, ◌++◌}
 use native.Mathlib.Omega.{arith}
 use native.Mathlib.Nat.{add-zero}
 use lib.ListN.{length, length-append}
-use lib.Dec.{leb, eqb}
+use lib.Dec.{eqb}
 use borrow.Author.Tests.{le-leb}
 use Rattle.part.specs.Numbers.{origin, ones, signed}
 use Rattle.part.specs.Checks.{Checked, fine, fault, require, starting_at, ◌>>=◌}
@@ -21,7 +21,7 @@ use Rattle.part.specs.Place.{Effect, effect, along, place_text, place_rule, plac
 use Rattle.part.specs.Part.{roomed, placed, passed, passed_by, elements, elements_by}
 use Rattle.part.specs.declared.shapes.Descriptor.{Descriptor}
 use Rattle.part.specs.declared.shapes.State.{State}
-use Rattle.part.proofs.Checks.{went_on, same_value, after, regrouped}
+use Rattle.part.proofs.Checks.{same_value, after, regrouped}
 use Rattle.part.proofs.Parts.{all_bytes-join, ◌then◌, place-keeps}
 
 -- an effect from another number of bytes used

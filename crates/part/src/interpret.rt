@@ -17,8 +17,8 @@ use super::working::USED;
 
 // The tests before any element: 10, 12, 15, 19.
 fn admit(part: usize, widths: usize, area: usize, d: Descriptor, s: State) -> u32
-    ensures tt_value { verdict result tt ≡ admitted_by part widths area d s }
-    ensures upper_bound { result < 256 }
+    ensures code { verdict result tt ≡ admitted_by part widths area d s }
+    ensures small { result < 256 }
 {
     if !both(area == 4096, widths == 1024) {
         return 10;
@@ -129,7 +129,7 @@ fn added(
 ) -> Outcome
     requires { Ready widths.now scratch.old w.old × ((hold (descriptor_fields (descriptor_of d.now)) ≡ true) × ((length part.now ≤ 8192) × (from + length scratch.old ≤ length area.old + get_or w.old 11 0))) }
     ensures added { Added (elements_in (length scratch.old) widths.now (descriptor_of d.now) (state_of w.old) (cut (get_or w.old 10 0) part.now)) (length (cut (get_or w.old 10 0) part.now)) area.old from result (state_of w.new) area.new }
-    ensures at_bound { (result.at ≤ 8192) × (result.count ≤ 8192) }
+    ensures bounded { (result.at ≤ 8192) × (result.count ≤ 8192) }
 {
     let low = wide(w[USED]);
     let r = run(part, widths, scratch, d, w);

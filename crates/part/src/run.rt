@@ -32,7 +32,7 @@ fn nearer(fault: u32, from: usize) -> u32
 pub fn run(part: &[u8], widths: &[u16], area: &mut [u8], d: &[u32; 12], w: &mut [u32]) -> Outcome
     requires { Ready widths.now area.old w.old × ((hold (descriptor_fields (descriptor_of d.now)) ≡ true) × (length part.now ≤ 8192)) }
     ensures ran { Ran (elements_in (length area.old) widths.now (descriptor_of d.now) (state_of w.old) (cut (get_or w.old 10 0) part.now)) (length (cut (get_or w.old 10 0) part.now)) (get_or w.old 11 0) area.old result (state_of w.new) area.new }
-    ensures at_bound { (result.at ≤ 8192) × (result.count ≤ 8192) }
+    ensures bounded { (result.at ≤ 8192) × (result.count ≤ 8192) }
 {
     let mut at: usize = 0;
     let mut count: usize = 0;

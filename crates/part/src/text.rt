@@ -133,8 +133,8 @@ fn spaces(t: &[u8]) -> u32
 
 // The widths of some characters together, from those in the row alone. X'40' is counted apart, so that no character is tested where it has the row's width.
 fn spaced(t: &[u8], row: &[u16], sum: usize, space: usize) -> usize
-    requires row_len { (length row.now ≡ 256) × ((space < 4294967296) × (length t.now < 65536)) }
-    requires sum_value { (sum ≡ row_widths row.now t.now) × (sum ≤ 65536 * length t.now) }
+    requires sizes { (length row.now ≡ 256) × ((space < 4294967296) × (length t.now < 65536)) }
+    requires summed { (sum ≡ row_widths row.now t.now) × (sum ≤ 65536 * length t.now) }
     ensures { (result ≡ widths_of row.now space t.now) × (result ≤ 4294967296 * length t.now) }
 {
     let own = row[0x40] as usize;
@@ -169,8 +169,8 @@ fn few_total(t: &[u8], row: &[u16], space: usize) -> usize
 
 // The widths of `count` characters of a text that begins again at its end, and that has `whole` in all: whole rounds, and a last part of one.
 fn cycle_total(t: &[u8], count: usize, whole: usize, row: &[u16], space: usize) -> usize
-    requires row_len { (length row.now ≡ 256) × ((space < 4294967296) × ((0 < length t.now) × ((length t.now < 65536) × (count < 65536)))) }
-    requires whole_value { (whole ≡ widths_of row.now space t.now) × (whole ≤ 4294967296 * length t.now) }
+    requires sizes { (length row.now ≡ 256) × ((space < 4294967296) × ((0 < length t.now) × ((length t.now < 65536) × (count < 65536)))) }
+    requires counted { (whole ≡ widths_of row.now space t.now) × (whole ≤ 4294967296 * length t.now) }
     ensures { (result ≡ widths_of row.now space (cycle t.now 0 count)) × (result ≤ 4294967296 * count) }
 {
     let n = t.len();
@@ -261,8 +261,8 @@ fn narrowest(t: &[u8], row: &[u16], space: usize) -> usize
 
 // A text from which an adjustment is subtracted. Where no character is narrower than that, I does not fall here either.
 fn present_back(t: &[u8], whole: usize, row: &[u16], l: Line, start: usize) -> Reached
-    requires row_len { (length row.now ≡ 256) × ((l.space < 4294967296) × ((l.limit < 8589934592) × ((l.plus < 4294967296) × ((l.minus < 4294967296) × ((start < 4294967296) × (length t.now < 65536)))))) }
-    requires whole_value { (whole ≡ widths_of row.now l.space t.now) × (whole ≤ 4294967296 * length t.now) }
+    requires sizes { (length row.now ≡ 256) × ((l.space < 4294967296) × ((l.limit < 8589934592) × ((l.plus < 4294967296) × ((l.minus < 4294967296) × ((start < 4294967296) × (length t.now < 65536)))))) }
+    requires counted { (whole ≡ widths_of row.now l.space t.now) × (whole ≤ 4294967296 * length t.now) }
     ensures { (reached result ≡ walked row.now l start t.now) × (result.at < 4294967296) }
 {
     if l.minus <= narrowest(t, row, l.space) {

@@ -1,12 +1,9 @@
 -- `part::interpret::added` meets its contract: what a whole run added is stored.
-use Prim.Native.Nat.{◌-◌}
 use Rattle.part.proofs.Answers.{stores}
-use Rattle.part.proofs.Turns.{ran_stopped, added-fault}
-use Rattle.part.specs.Code.{state_of, descriptor_of, elements_in}
+use Rattle.part.specs.Code.{state_of, descriptor_of}
 use Rattle.part.specs.Reading.{cut}
 use borrow.Author.Rules.{rules}
-use lib.ListN.{length, get_or, drop, length-drop}
-use lib.Seq.{length-take-le}
+use lib.ListN.{length, get_or}
 use mathlib.Core.Path.{◌≡◌, refl}
 use native.Mathlib.Omega.{arith}
 use Rattle.part.proofs.interpret.added.Goals as goal
@@ -17,8 +14,8 @@ slice_bounds-store-count c =
     let u = c.run-r in
     let w = a.w.now in
     let scratch = a.scratch.now in
-    let left = u.new.1.1.0 in
-    let done = stores (length scratch) a.widths.now (descriptor_of a.d.now) (state_of w) (cut (get_or w 10 0) a.part.now) _ u.result.count a.from scratch left a.area.now (state_of u.new.1.1.1.1.0) c.requires.0.fits refl (search rules) (rw c.if-r-eq0.true at u.ensures.0) in
+    let left = u.new.area in
+    let done = stores (length scratch) a.widths.now (descriptor_of a.d.now) (state_of w) (cut (get_or w 10 0) a.part.now) _ u.result.count a.from scratch left a.area.now (state_of u.new.w) c.requires.0.fits refl (search rules) (rw c.if-r-eq0.true at u.ensures.ran) in
     let low = c.wide-low in
     let high = c.wide-high in
     omega (arith, done.0, low.ensures.0, high.ensures.0)
@@ -29,8 +26,8 @@ slice_bounds-store-start c =
     let u = c.run-r in
     let w = a.w.now in
     let scratch = a.scratch.now in
-    let left = u.new.1.1.0 in
-    let done = stores (length scratch) a.widths.now (descriptor_of a.d.now) (state_of w) (cut (get_or w 10 0) a.part.now) _ u.result.count a.from scratch left a.area.now (state_of u.new.1.1.1.1.0) c.requires.0.fits refl (search rules) (rw c.if-r-eq0.true at u.ensures.0) in
+    let left = u.new.area in
+    let done = stores (length scratch) a.widths.now (descriptor_of a.d.now) (state_of w) (cut (get_or w 10 0) a.part.now) _ u.result.count a.from scratch left a.area.now (state_of u.new.w) c.requires.0.fits refl (search rules) (rw c.if-r-eq0.true at u.ensures.ran) in
     let low = c.wide-low in
     let high = c.wide-high in
     let long : length left ≡ length scratch = search rules in
@@ -42,21 +39,21 @@ slice_bounds-store-end c =
     let u = c.run-r in
     let w = a.w.now in
     let scratch = a.scratch.now in
-    let left = u.new.1.1.0 in
-    let done = stores (length scratch) a.widths.now (descriptor_of a.d.now) (state_of w) (cut (get_or w 10 0) a.part.now) _ u.result.count a.from scratch left a.area.now (state_of u.new.1.1.1.1.0) c.requires.0.fits refl (search rules) (rw c.if-r-eq0.true at u.ensures.0) in
+    let left = u.new.area in
+    let done = stores (length scratch) a.widths.now (descriptor_of a.d.now) (state_of w) (cut (get_or w 10 0) a.part.now) _ u.result.count a.from scratch left a.area.now (state_of u.new.w) c.requires.0.fits refl (search rules) (rw c.if-r-eq0.true at u.ensures.ran) in
     let low = c.wide-low in
     let high = c.wide-high in
     let long : length left ≡ length scratch = search rules in
     omega (arith, long, done.0, done.1.0, low.ensures.0, high.ensures.0)
 
-pub returns-then-r-eq0-clause-added : goal.returns-then-r-eq0-clause-added
-returns-then-r-eq0-clause-added c =
+pub returns-then-r-eq0 : goal.returns-then-r-eq0
+returns-then-r-eq0 c =
     let a = c.args in
     let u = c.run-r in
     let w = a.w.now in
     let scratch = a.scratch.now in
-    let left = u.new.1.1.0 in
-    let done = stores (length scratch) a.widths.now (descriptor_of a.d.now) (state_of w) (cut (get_or w 10 0) a.part.now) _ u.result.count a.from scratch left a.area.now (state_of u.new.1.1.1.1.0) c.requires.0.fits refl (search rules) (rw c.if-r-eq0.true at u.ensures.0) in
+    let left = u.new.area in
+    let done = stores (length scratch) a.widths.now (descriptor_of a.d.now) (state_of w) (cut (get_or w 10 0) a.part.now) _ u.result.count a.from scratch left a.area.now (state_of u.new.w) c.requires.0.fits refl (search rules) (rw c.if-r-eq0.true at u.ensures.ran) in
     let low = c.wide-low in
     let high = c.wide-high in
-    (rw (c.if-r-eq0.true, c.store.ensures, high.ensures.0, low.ensures.0) done.1.1, u.ensures.1)
+    record { added = rw (c.if-r-eq0.true, c.store.ensures, high.ensures.0, low.ensures.0) done.1.1; bounded = u.ensures.bounded }

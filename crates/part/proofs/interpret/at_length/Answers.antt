@@ -6,7 +6,6 @@ use Rattle.part.proofs.Scratch.{elements-whole}
 use Rattle.part.proofs.Turns.{added_stopped}
 use Rattle.part.specs.Code.{state_of, descriptor_of, elements_in}
 use Rattle.part.specs.Reading.{cut}
-use borrow.Author.Rules.{rules}
 use borrow.Author.Tests.{leb-true}
 use lib.ListN.{length, get_or}
 use mathlib.Core.Path.{refl, sym, ◌∙◌}
@@ -26,8 +25,8 @@ added-r-requires c =
     let room : from.result + 4096 ≤ length area + s.used = omega (arith, fit.area, from.ensures.0) in
     rw c.working-w.ensures (record { twelve = refl; in_range = fit.state; widths = fit.widths; small = leb-true _ _ refl; fits = used_fits s fit.state }, (fit.descriptor, (fit.part, room)))
 
-pub returns-then-r-ne0-clause-value : goal.returns-then-r-ne0-clause-value
-returns-then-r-ne0-clause-value c =
+pub returns-then-r-ne0 : goal.returns-then-r-ne0
+returns-then-r-ne0 c =
     let a = c.args in
     let part = a.part.now in
     let widths = a.widths.now in
@@ -37,26 +36,10 @@ returns-then-r-ne0-clause-value c =
     let u = c.added-r in
     let ws = c.working-w.result in
     let ps = cut (get_or ws 10 0) part in
-    let stop = added_stopped (elements_in 4096 widths d (state_of ws) ps) (length ps) area c.wide.result u.result.fault u.result.at u.result.count (state_of u.new.1.1.1.1.1.1.0) u.new.1.1.0 c.if-r-ne0.true u.ensures.0 in
+    let stop = added_stopped (elements_in 4096 widths d (state_of ws) ps) (length ps) area c.wide.result u.result.fault u.result.at u.result.count (state_of u.new.w) u.new.area c.if-r-ne0.true u.ensures.added in
     let all = rw c.working-w.ensures at stop.0 in
     let b = broken widths d s part area c.requires (u.result.fault % 256) (u.result.at + u.result.fault / 256) (sym (elements-whole widths d s (cut s.chain part)) ∙ all) in
-    (c.refusal.ensures ∙ b.0, stop.1 ∙ b.1)
-
-pub returns-then-r-ne0-clause-area_after : goal.returns-then-r-ne0-clause-area_after
-returns-then-r-ne0-clause-area_after c =
-    let a = c.args in
-    let part = a.part.now in
-    let widths = a.widths.now in
-    let area = a.area.now in
-    let d = descriptor_of a.d.now in
-    let s = a.s in
-    let u = c.added-r in
-    let ws = c.working-w.result in
-    let ps = cut (get_or ws 10 0) part in
-    let stop = added_stopped (elements_in 4096 widths d (state_of ws) ps) (length ps) area c.wide.result u.result.fault u.result.at u.result.count (state_of u.new.1.1.1.1.1.1.0) u.new.1.1.0 c.if-r-ne0.true u.ensures.0 in
-    let all = rw c.working-w.ensures at stop.0 in
-    let b = broken widths d s part area c.requires (u.result.fault % 256) (u.result.at + u.result.fault / 256) (sym (elements-whole widths d s (cut s.chain part)) ∙ all) in
-    (c.refusal.ensures ∙ b.0, stop.1 ∙ b.1)
+    record { value = c.refusal.ensures ∙ b.0; area_after = stop.1 ∙ b.1 }
 
 pub overflow_sub-size : goal.overflow_sub-size
 overflow_sub-size c =
@@ -67,11 +50,11 @@ overflow_sub-size c =
     let d = descriptor_of a.d.now in
     let s = a.s in
     let u = c.added-r in
-    let done = whole widths d s part area c.requires u.result.count (state_of u.new.1.1.1.1.1.1.0) u.new.1.1.0 (rw (c.working-w.ensures, c.wide.ensures.0, c.if-r-ne0.false) at u.ensures.0) in
+    let done = whole widths d s part area c.requires u.result.count (state_of u.new.w) u.new.area (rw (c.working-w.ensures, c.wide.ensures.0, c.if-r-ne0.false) at u.ensures.added) in
     done.0
 
-pub returns-clause-value : goal.returns-clause-value
-returns-clause-value c =
+pub returns : goal.returns
+returns c =
     let a = c.args in
     let part = a.part.now in
     let widths = a.widths.now in
@@ -79,17 +62,5 @@ returns-clause-value c =
     let d = descriptor_of a.d.now in
     let s = a.s in
     let u = c.added-r in
-    let done = whole widths d s part area c.requires u.result.count (state_of u.new.1.1.1.1.1.1.0) u.new.1.1.0 (rw (c.working-w.ensures, c.wide.ensures.0, c.if-r-ne0.false) at u.ensures.0) in
-    (c.accepted.ensures ∙ done.1, done.2)
-
-pub returns-clause-area_after : goal.returns-clause-area_after
-returns-clause-area_after c =
-    let a = c.args in
-    let part = a.part.now in
-    let widths = a.widths.now in
-    let area = a.area.now in
-    let d = descriptor_of a.d.now in
-    let s = a.s in
-    let u = c.added-r in
-    let done = whole widths d s part area c.requires u.result.count (state_of u.new.1.1.1.1.1.1.0) u.new.1.1.0 (rw (c.working-w.ensures, c.wide.ensures.0, c.if-r-ne0.false) at u.ensures.0) in
-    (c.accepted.ensures ∙ done.1, done.2)
+    let done = whole widths d s part area c.requires u.result.count (state_of u.new.w) u.new.area (rw (c.working-w.ensures, c.wide.ensures.0, c.if-r-ne0.false) at u.ensures.added) in
+    record { value = c.accepted.ensures ∙ done.1; area_after = done.2 }

@@ -1,6 +1,5 @@
 -- `part::little::eight_at` meets its contract: its lower half, and then its upper.
 use Rattle.part.proofs.Words.{read-on}
-use borrow.Author.Rules.{rules}
 use Rattle.part.proofs.little.eight_at.Goals as goal
 
 pub returns : goal.returns

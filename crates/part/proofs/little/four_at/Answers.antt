@@ -1,7 +1,6 @@
 -- `part::little::four_at` meets its contract: its lower half, and then its upper.
 use native.Mathlib.Omega.{arith}
 use Rattle.part.proofs.Words.{read-on}
-use borrow.Author.Rules.{rules}
 use Rattle.part.proofs.little.four_at.Goals as goal
 
 pub returns : goal.returns

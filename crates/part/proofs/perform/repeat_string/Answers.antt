@@ -5,8 +5,7 @@ use Rattle.part.proofs.Shown.{text_none}
 use Rattle.part.specs.Code.{state_of, descriptor_of}
 use Rattle.part.specs.Numbers.{if◌then◌else◌, word}
 use Rattle.part.specs.Text.{cycle}
-use borrow.Author.Rules.{rules}
-use borrow.Author.Tests.{not-true, not-false, le-leb, lt-leb, lt-ltb, le-ltb}
+use borrow.Author.Tests.{le-leb, lt-ltb}
 use lib.Dec.{ltb}
 use lib.ListN.{length, drop}
 use mathlib.Core.Path.{refl, sym, ◌∙◌}
@@ -21,7 +20,7 @@ returns-then-count-eq0 c =
     let widths = a.widths.now in
     let v = c.word_at-count.ensures.0 in
     let none = sym v ∙ c.if-count-eq0.true in
-    let fit = sym c.suits.ensures ∙ not-false c.suits.result c.if-not-suits.false in
+    let fit = sym c.suits.ensures ∙ c.if-not-suits.false in
     rw (fit, none, le-leb 0 (if ltb 2 (length p) then 0x7FFF else 0) (omega arith), text_none (length a.area.now) widths (descriptor_of a.d.now) (state_of w) (cycle (drop 2 p) 0 0) (length-cycle (drop 2 p) 0 0)) (refl, refl)
 
 pub returns : goal.returns
@@ -32,5 +31,5 @@ returns c =
     let widths = a.widths.now in
     let v = c.word_at-count.ensures.0 in
     let n = c.wide.ensures.0 in
-    let fit = sym c.suits.ensures ∙ not-false c.suits.result c.if-not-suits.false in
+    let fit = sym c.suits.ensures ∙ c.if-not-suits.false in
     rw (fit, lt-ltb 2 (length p) c.if-p-le2.false, le-leb (word 0 p 0) 0x7FFF (omega (arith, v, c.if-count-gt32767.false)), ← v, ← n, ← tail_of p 2) c.show_text.ensures

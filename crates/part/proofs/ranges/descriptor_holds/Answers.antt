@@ -1,6 +1,5 @@
 -- `part::ranges::descriptor_holds` meets its contract: test by test, the list of ranges.
 use Rattle.part.specs.Ranges.{descriptor_fields}
-use borrow.Author.Rules.{rules}
 use Rattle.part.proofs.ranges.descriptor_holds.Goals as goal
 
 pub returns : goal.returns

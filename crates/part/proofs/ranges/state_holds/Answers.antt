@@ -1,6 +1,5 @@
 -- `part::ranges::state_holds` meets its contract: test by test, the list of ranges.
 use Rattle.part.specs.Ranges.{state_fields}
-use borrow.Author.Rules.{rules}
 use Rattle.part.proofs.ranges.state_holds.Goals as goal
 
 pub returns : goal.returns

@@ -1,11 +1,8 @@
 -- `part::reader::clear_blocks` meets its contract. The invariant: k bytes and the stretch from there on make the whole stretch.
 use Prim.Native.Nat.{◌+◌, ◌-◌, ◌≤◌}
-use Rattle.part.proofs.Runs.{block}
 use Rattle.part.specs.Reading.{stretch}
 use lib.ListN.{length, drop}
-use mathlib.Core.Path.{◌≡◌, ◌∙◌}
-use native.Mathlib.Nat.{zero-add}
-use native.Mathlib.Omega.{arith}
+use mathlib.Core.Path.{◌≡◌}
 use Rattle.part.proofs.reader.clear_blocks.Given as goal
 
 abbrev pub invariant-loop-k : goal.invariant-loop-k

@@ -1,12 +1,8 @@
 -- `part::reader::is_clear` meets its contract. The invariant: while nothing was found, the stretch has k bytes at least.
 use Prim.Native.Nat.{◌-◌, ◌≤◌}
-use Rattle.part.proofs.Reading.{stretch-fits}
-use Rattle.part.proofs.Runs.{past}
 use Rattle.part.specs.Reading.{stretch}
-use mathlib.Core.Bool.{true, true≢false}
-use mathlib.Core.Logic.{⊎_elim}
-use mathlib.Core.Path.{◌≡◌, sym, ◌∙◌}
-use native.Mathlib.Omega.{arith}
+use mathlib.Core.Bool.{true}
+use mathlib.Core.Path.{◌≡◌}
 use Rattle.part.proofs.reader.is_clear.Given as goal
 
 abbrev pub invariant-loop-k : goal.invariant-loop-k

@@ -1,6 +1,5 @@
 -- `part::reader::read_element` meets its contract: at each return the tests on the way decide the rule's.
 use mathlib.Core.Path.{◌≡◌, refl, ◌∙◌}
-use mathlib.Core.Logic.{⊎_elim}
 use borrow.Author.Rules.{rules}
 use borrow.Author.Tests.{eq-eqb, ne_eqb}
 use native.Mathlib.Nat.{sub-zero}
@@ -10,6 +9,7 @@ use Rattle.part.specs.Reading.{stretch, element}
 use Rattle.part.proofs.Bytes.{there}
 use Rattle.part.proofs.Reading.{stretch-fits, stretch-some}
 use Rattle.part.proofs.reader.read_element.Goals as goal
+use Rattle.part.proofs.reader.read_element.Goals.{then-bytes-gt1+else-bytes, else-bytes-gt1}
 
 pub returns-then-chain-eq1 : goal.returns-then-chain-eq1
 unfolding element
@@ -32,5 +32,8 @@ pub returns : goal.returns
 unfolding element
 returns c =
     let bytes = c.args.bytes.now in
-    let introduced : get_or bytes 1 0xD3 ≡ 0xD3 = ⊎_elim (λ w. there bytes 1 0xD3 0 w.0.taken ∙ w.2.left) (λ w. get_or-eq_default bytes 0xD3 w.left) c.if-bytes-gt1.branch in
+    let introduced : get_or bytes 1 0xD3 ≡ 0xD3 = elim c.if-bytes-gt1.branch [
+      | then-bytes-gt1+else-bytes w ↦ there bytes 1 0xD3 0 w.if-bytes-gt1.true ∙ w.if-bytes.false
+      | else-bytes-gt1 w ↦ get_or-eq_default bytes 0xD3 w.if-bytes-gt1.false
+    ] in
     rw (ne_eqb _ _ c.if-chain-eq1.false, eq-eqb _ _ c.if-bytes-ne43.false, introduced) c.read_sequence-2.ensures

@@ -1,9 +1,8 @@
 -- `part::reader::run_length` meets its contract. The invariant: k bytes and the stretch from there on make the whole stretch.
 use Prim.Native.Nat.{◌+◌, ◌-◌, ◌≤◌}
-use Rattle.part.proofs.Runs.{stops, goes, ends}
 use Rattle.part.specs.Reading.{stretch}
 use lib.ListN.{length, drop}
-use mathlib.Core.Path.{◌≡◌, sym, ◌∙◌}
+use mathlib.Core.Path.{◌≡◌}
 use Rattle.part.proofs.reader.run_length.Given as goal
 
 abbrev pub invariant-loop-k : goal.invariant-loop-k

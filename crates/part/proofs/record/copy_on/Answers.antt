@@ -1,11 +1,6 @@
 -- `part::record::copy_on` meets its contract. The invariant: the first k bytes are copied.
-use Prim.Native.Nat.{◌-◌, ◌≤◌}
 use Rattle.part.proofs.Stores.{copy_one}
 use borrow.Author.Rules.{rules}
-use lib.ListN.{length, take, drop}
-use lib.Seq.{sets, length-sets}
-use mathlib.Core.Path.{◌≡◌, refl, ◌∙◌, ap}
-use native.Mathlib.Omega.{arith}
 use Rattle.part.proofs.record.copy_on.Goals as goal
 
 pub loop-k-preserved : goal.loop-k-preserved

@@ -1,10 +1,8 @@
 -- `part::record::copy_on` meets its contract. The invariant: the first k bytes are copied.
 use Prim.Native.Nat.{◌-◌, ◌≤◌}
-use Rattle.part.proofs.Stores.{copy_one}
-use lib.ListN.{length, take, drop}
-use lib.Seq.{sets, length-sets}
-use mathlib.Core.Path.{◌≡◌, refl, ◌∙◌, ap}
-use native.Mathlib.Omega.{arith}
+use lib.ListN.{take, drop}
+use lib.Seq.{sets}
+use mathlib.Core.Path.{◌≡◌}
 use Rattle.part.proofs.record.copy_on.Given as goal
 
 abbrev pub invariant-loop-k : goal.invariant-loop-k

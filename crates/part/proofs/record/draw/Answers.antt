@@ -1,7 +1,6 @@
 -- `part::record::draw` meets its contract: up to one round the characters are the text's first.
 use Rattle.part.proofs.Cycles.{cycle-take}
-use borrow.Author.Rules.{rules}
-use lib.Seq.{sets, length-take-le}
+use lib.Seq.{sets}
 use mathlib.Core.Path.{sym, ◌∙◌, ap}
 use Rattle.part.proofs.record.draw.Goals as goal
 

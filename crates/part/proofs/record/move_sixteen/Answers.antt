@@ -6,7 +6,6 @@ use lib.ListN.{take, drop}
 use lib.Seq.{sets, take-add, drop-drop}
 use Rattle.part.specs.Code.{low_first}
 use Rattle.part.proofs.Stores.{both_known}
-use borrow.Author.Rules.{rules}
 use Rattle.part.proofs.record.move_sixteen.Goals as goal
 
 pub returns : goal.returns

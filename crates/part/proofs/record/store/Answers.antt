@@ -1,11 +1,6 @@
 -- `part::record::store` meets its contract. The invariant: the first k bytes are stored.
-use Prim.Native.Nat.{◌-◌, ◌≤◌}
-use Rattle.part.proofs.Stores.{one_more, all_of}
+use Rattle.part.proofs.Stores.{one_more}
 use borrow.Author.Rules.{rules}
-use lib.ListN.{length, take}
-use lib.Seq.{sets, length-sets}
-use mathlib.Core.Path.{◌≡◌, refl, ◌∙◌, ap}
-use native.Mathlib.Omega.{arith}
 use Rattle.part.proofs.record.store.Goals as goal
 
 pub loop-k-preserved : goal.loop-k-preserved

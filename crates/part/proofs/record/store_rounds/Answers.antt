@@ -1,11 +1,11 @@
 -- `part::record::store_rounds` meets its contract. The invariant: whole rounds, or all of them, are stored.
-use Prim.Native.Nat.{◌+◌, ◌-◌, ◌%◌, ◌≤◌}
+use Prim.Native.Nat.{◌+◌, ◌%◌}
 use Rattle.part.proofs.Cycles.{once, length-cycle}
 use Rattle.part.proofs.Stores.{overwritten, rounds_step, doubled}
 use Rattle.part.specs.Text.{cycle}
 use borrow.Author.Rules.{rules}
 use lib.ListN.{length}
-use lib.Seq.{sets, length-sets}
+use lib.Seq.{length-sets}
 use mathlib.Core.Logic.{◌⊎◌, inl, inr, ⊎_elim}
 use mathlib.Core.Path.{◌≡◌, sym, ◌∙◌, ap}
 use native.Mathlib.Nat.{mod_self}

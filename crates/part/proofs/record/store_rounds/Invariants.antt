@@ -1,14 +1,10 @@
 -- `part::record::store_rounds` meets its contract. The invariant: whole rounds, or all of them, are stored.
 use Prim.Native.Nat.{◌+◌, ◌-◌, ◌%◌, ◌≤◌}
-use Rattle.part.proofs.Cycles.{once, length-cycle}
-use Rattle.part.proofs.Stores.{overwritten, rounds_step, doubled}
 use Rattle.part.specs.Text.{cycle}
 use lib.ListN.{length}
-use lib.Seq.{sets, length-sets}
-use mathlib.Core.Logic.{◌⊎◌, inl, inr, ⊎_elim}
-use mathlib.Core.Path.{◌≡◌, sym, ◌∙◌, ap}
-use native.Mathlib.Nat.{mod_self}
-use native.Mathlib.Omega.{arith}
+use lib.Seq.{sets}
+use mathlib.Core.Logic.{◌⊎◌}
+use mathlib.Core.Path.{◌≡◌}
 use Rattle.part.proofs.record.store_rounds.Given as goal
 
 abbrev pub invariant-loop-done : goal.invariant-loop-done

@@ -1,11 +1,10 @@
 -- `part::record::store_text` meets its contract. The invariant: the first k bytes are stored.
-use Prim.Native.Nat.{◌+◌, ◌-◌, ◌≤◌}
+use Prim.Native.Nat.{◌+◌}
 use borrow.Author.Rules.{rules}
 use Rattle.part.proofs.Stores.{some_more, all_more}
 use lib.ListN.{length, take}
-use lib.Seq.{sets, length-sets}
-use mathlib.Core.Path.{◌≡◌, refl, ◌∙◌, ap}
-use native.Mathlib.Omega.{arith}
+use lib.Seq.{length-sets}
+use mathlib.Core.Path.{◌∙◌, ap}
 use Rattle.part.proofs.record.store_text.Goals as goal
 
 pub loop-k-preserved : goal.loop-k-preserved

@@ -1,10 +1,8 @@
 -- `part::record::store_text` meets its contract. The invariant: the first k bytes are stored.
-use Prim.Native.Nat.{◌+◌, ◌-◌, ◌≤◌}
-use Rattle.part.proofs.Stores.{some_more, all_more}
+use Prim.Native.Nat.{◌-◌, ◌≤◌}
 use lib.ListN.{length, take}
-use lib.Seq.{sets, length-sets}
-use mathlib.Core.Path.{◌≡◌, refl, ◌∙◌, ap}
-use native.Mathlib.Omega.{arith}
+use lib.Seq.{sets}
+use mathlib.Core.Path.{◌≡◌}
 use Rattle.part.proofs.record.store_text.Given as goal
 
 abbrev pub invariant-loop-k : goal.invariant-loop-k

@@ -3,7 +3,6 @@ use Prim.Native.Nat.{◌+◌}
 use Rattle.part.proofs.Places.{used_set}
 use Rattle.part.specs.Checks.{fine}
 use Rattle.part.specs.Records.{bytes_of}
-use borrow.Author.Rules.{rules}
 use borrow.Author.Tests.{le-leb, lt-leb}
 use lib.ListN.{length, get_or}
 use mathlib.Core.Path.{refl, ap}

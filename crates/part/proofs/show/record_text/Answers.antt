@@ -7,8 +7,7 @@ use Rattle.part.proofs.Stores.{more}
 use Rattle.part.specs.Checks.{fine}
 use Rattle.part.specs.Code.{state_of, head_of, head_bytes}
 use Rattle.part.specs.Text.{cycle}
-use borrow.Author.Rules.{rules}
-use lib.ListN.{length, get_or, length-set}
+use lib.ListN.{length, get_or}
 use mathlib.Core.Path.{refl, sym, ◌∙◌, ap}
 use native.Mathlib.Omega.{arith}
 use Rattle.part.proofs.show.record_text.Goals as goal
@@ -30,7 +29,7 @@ returns c =
     let used = c.wide-used.result in
     let u = c.wide-used.ensures.0 in
     let fits = text_fits (length area) (state_of w) a.i cs (omega (arith, long, u)) in
-    let h = c.text_Head.result in
-    let same = c.text_Head.ensures ∙ ap (head_of (state_of w)) (sym long) in
-    let stored = more area c.put_head.new.0 c.draw.new.0 used (head_bytes h) cs c.put_head.ensures c.draw.ensures in
+    let h = c.text_head.result in
+    let same = c.text_head.ensures ∙ ap (head_of (state_of w)) (sym long) in
+    let stored = more area c.put_head.new.area c.draw.new.area used (head_bytes h) cs c.put_head.ensures c.draw.ensures in
     rw fits (ap fine (text_set w c.requires.0 a.i (used + 16 + a.count) (get_or w 11 0 + 16 + length cs) (omega (arith, long, u))), stored ∙ recorded_text area (state_of w) used cs h u same)

@@ -6,9 +6,8 @@ use Rattle.part.proofs.Plains.{unhidden, reaches}
 use Rattle.part.proofs.Shown.{text_none, text_shown}
 use Rattle.part.proofs.Texts.{row_cut}
 use Rattle.part.specs.Code.{state_of, descriptor_of}
-use borrow.Author.Rules.{rules}
 use lib.ListN.{length, get_or}
-use lib.Seq.{length-take-le, take_all}
+use lib.Seq.{take_all}
 use mathlib.Core.Path.{refl, sym}
 use native.Mathlib.Omega.{arith}
 use Rattle.part.proofs.show.show_plain.Goals as goal

@@ -9,8 +9,6 @@ use Rattle.part.specs.Checks.{fine}
 use Rattle.part.specs.Code.{state_of, baseline, verdict, descriptor_of}
 use Rattle.part.specs.Presenting.{hides}
 use Rattle.part.specs.Text.{cycle}
-use borrow.Author.Rules.{rules}
-use borrow.Author.Tests.{not-true, not-false}
 use lib.ListN.{length}
 use mathlib.Core.Bool.{true, false}
 use mathlib.Core.Path.{◌≡◌, refl, sym, ◌∙◌, ap}
@@ -36,7 +34,7 @@ returns-then-not-either c =
     let cs = cycle a.t.now 0 a.count in
     let long = length-cycle a.t.now 0 a.count in
     let some : 0 < length cs = omega (arith, long, c.if-count-eq0.false) in
-    let off : baseline (descriptor_of a.d.now) s ≡ false = rw (← c.is_hidden-hidden.ensures, ← c.within.ensures, ← c.either.ensures) (not-true c.either.result c.if-not-either.true) in
+    let off : baseline (descriptor_of a.d.now) s ≡ false = rw (← c.is_hidden-hidden.ensures, ← c.within.ensures, ← c.either.ensures) c.if-not-either.true in
     text_refused (length a.area.now) widths (descriptor_of a.d.now) s cs 27 0 s _ _ (λ e. omega arith) (sym (characters_off widths (descriptor_of a.d.now) s s.at.i cs off some))
 
 pub walk_line-r-requires : goal.walk_line-r-requires
@@ -47,7 +45,7 @@ walk_line-r-requires c =
     let widths = a.widths.now in
     let cs = cycle a.t.now 0 a.count in
     let long = length-cycle a.t.now 0 a.count in
-    let on : baseline (descriptor_of a.d.now) s ≡ true = rw (← c.is_hidden-hidden.ensures, ← c.within.ensures, ← c.either.ensures) (not-false c.either.result c.if-not-either.false) in
+    let on : baseline (descriptor_of a.d.now) s ≡ true = rw (← c.is_hidden-hidden.ensures, ← c.within.ensures, ← c.either.ensures) c.if-not-either.false in
     ((c.requires.0.twelve, (c.requires.0.widths, font-fits s c.requires.0.in_range)), ((c.requires.1.0 (omega (arith, c.if-count-eq0.false)), c.requires.1.1), (c.is_hidden-hidden.ensures, on)))
 
 pub returns-then-r-ne0 : goal.returns-then-r-ne0

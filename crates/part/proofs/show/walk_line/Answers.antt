@@ -1,11 +1,10 @@
 -- `part::show::walk_line` meets its contract: the characters go along the line that the state stands on.
 use Prim.Native.Nat.{◌+◌, ◌-◌, ◌*◌}
-use Rattle.part.proofs.Texts.{Follows, characters-along, bytes-cycle, row_cut, row-length}
+use Rattle.part.proofs.Texts.{Follows, characters-along, bytes-cycle, row_cut}
 use Rattle.part.specs.Code.{state_of, descriptor_of}
 use Rattle.part.specs.Text.{cycle}
 use Rattle.part.specs.declared.text.Line.{Line}
-use borrow.Author.Rules.{rules}
-use lib.ListN.{get_or, take, drop, length}
+use lib.ListN.{get_or, take, drop}
 use mathlib.Core.Bool.{not}
 use mathlib.Core.Path.{sym, ◌∙◌, ap}
 use native.Mathlib.Omega.{arith}
@@ -19,8 +18,8 @@ returns c =
     let font = get_or w 6 0 in
     let f = c.wide-font in
     let cut = row_cut widths font f.result f.ensures.0 in
-    let l = c.Line-of in
-    let e = l.ensures.0 in
+    let l = c.line_of-l in
+    let e = l.ensures.value in
     let t = a.t.now in
     let row = take (256 * f.result + 256 - 256 * f.result) (drop (256 * f.result) widths) in
     let follows : Follows widths row (descriptor_of a.d.now) (state_of w) l.result = record {

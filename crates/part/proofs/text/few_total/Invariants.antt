@@ -1,10 +1,8 @@
 -- `part::text::few_total` meets its contract. The invariant: the sum and the widths that are left are the widths of all.
 use Prim.Native.Nat.{◌+◌, ◌*◌, ◌-◌, ◌≤◌}
-use Rattle.part.proofs.Lines.{sum_rest, sum_none}
-use Rattle.part.specs.Code.{width_in, widths_of}
+use Rattle.part.specs.Code.{widths_of}
 use lib.ListN.{length, drop}
 use mathlib.Core.Path.{◌≡◌}
-use native.Mathlib.Omega.{arith}
 use Rattle.part.proofs.text.few_total.Given as goal
 
 abbrev pub invariant-loop-k : goal.invariant-loop-k

@@ -1,11 +1,8 @@
 -- `part::text::is_fixed` meets its contract. The invariant: while no other width was found, the first k are the first.
 use Prim.Native.Nat.{ℕ, ◌-◌, ◌<◌, ◌≤◌}
-use Rattle.part.proofs.Lines.{further}
 use lib.ListN.{get_or}
-use mathlib.Core.Bool.{true, true≢false}
-use mathlib.Core.Logic.{⊎_elim}
-use mathlib.Core.Path.{◌≡◌, sym, ◌∙◌}
-use native.Mathlib.Omega.{arith}
+use mathlib.Core.Bool.{true}
+use mathlib.Core.Path.{◌≡◌}
 use Rattle.part.proofs.text.is_fixed.Given as goal
 
 abbrev pub invariant-loop-k : goal.invariant-loop-k

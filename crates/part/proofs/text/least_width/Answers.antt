@@ -1,9 +1,7 @@
 -- `part::text::least_width` meets its contract. The invariant: the least so far is at most every width that was passed.
-use Prim.Native.Nat.{ℕ, ◌-◌, ◌<◌, ◌≤◌}
-use Rattle.part.proofs.Lines.{at_least, lower, width-least}
+use Rattle.part.proofs.Lines.{at_least, width-least}
 use Rattle.part.specs.Code.{width_in}
-use borrow.Author.Rules.{rules}
-use lib.ListN.{length, get_or}
+use lib.ListN.{get_or}
 use native.Mathlib.Omega.{arith}
 use Rattle.part.proofs.text.least_width.Goals as goal
 

@@ -1,9 +1,6 @@
 -- `part::text::least_width` meets its contract. The invariant: the least so far is at most every width that was passed.
 use Prim.Native.Nat.{ℕ, ◌-◌, ◌<◌, ◌≤◌}
-use Rattle.part.proofs.Lines.{at_least, lower, width-least}
-use Rattle.part.specs.Code.{width_in}
 use lib.ListN.{length, get_or}
-use native.Mathlib.Omega.{arith}
 use Rattle.part.proofs.text.least_width.Given as goal
 
 abbrev pub invariant-loop-k : goal.invariant-loop-k

@@ -3,7 +3,6 @@ use Rattle.part.proofs.Lines.{at_least, width-least}
 use Rattle.part.specs.Code.{width_in}
 use lib.ListN.{get_or}
 use native.Mathlib.Omega.{arith}
-use borrow.Author.Rules.{rules}
 use Rattle.part.proofs.text.narrowest.Goals as goal
 
 pub returns-then-is_fixed : goal.returns-then-is_fixed

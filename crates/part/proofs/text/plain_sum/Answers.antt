@@ -1,7 +1,6 @@
 -- `part::text::plain_sum` meets its contract: characters of one width are a product.
 use Prim.Native.Nat.{◌*◌, ◌≤◌}
-use Rattle.part.proofs.Lines.{fixed_sum, product_fits}
-use borrow.Author.Rules.{rules}
+use Rattle.part.proofs.Lines.{fixed_sum}
 use lib.ListN.{length}
 use mathlib.Core.Path.{◌∙◌, ap, sym}
 use native.Mathlib.Nat.{mul-le-mul_left}

@@ -1,9 +1,6 @@
 -- `part::text::present` meets its contract. Of a level line the sum of all widths is the end; any other is walked.
-use Prim.Native.Nat.{◌*◌, ◌≤◌}
 use mathlib.Core.Path.{sym}
 use mathlib.Core.Logic.{inl, inr}
-use native.Mathlib.Nat.{mul-le-mul}
-use native.Mathlib.Omega.{arith}
 use borrow.Author.Rules.{rules}
 use borrow.Author.Tests.{not-true}
 use Rattle.part.proofs.Cycles.{once}

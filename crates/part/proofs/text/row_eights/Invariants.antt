@@ -3,7 +3,6 @@ use Prim.Native.Nat.{◌+◌, ◌*◌, ◌-◌, ◌≤◌}
 use Rattle.part.specs.Code.{row_widths}
 use lib.ListN.{length, drop}
 use mathlib.Core.Path.{◌≡◌}
-use native.Mathlib.Omega.{arith}
 use Rattle.part.proofs.text.row_eights.Given as goal
 
 abbrev pub invariant-loop-k : goal.invariant-loop-k

@@ -1,10 +1,8 @@
 -- `part::text::row_sum` meets its contract. The invariant: the sum and the widths that are left are the widths of all.
 use Prim.Native.Nat.{◌+◌, ◌*◌, ◌-◌, ◌≤◌}
-use Rattle.part.proofs.Lines.{sum_rest, sum_none}
 use Rattle.part.specs.Code.{row_widths}
-use lib.ListN.{length, drop, get_or}
+use lib.ListN.{length, drop}
 use mathlib.Core.Path.{◌≡◌}
-use native.Mathlib.Omega.{arith}
 use Rattle.part.proofs.text.row_sum.Given as goal
 
 abbrev pub invariant-loop-k : goal.invariant-loop-k

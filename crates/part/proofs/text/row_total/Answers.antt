@@ -1,11 +1,10 @@
 -- `part::text::row_total` meets its contract: characters of one width are a product.
 use Prim.Native.Nat.{◌*◌, ◌≤◌}
-use Rattle.part.proofs.Lines.{fixed_sum, product_fits}
+use Rattle.part.proofs.Lines.{fixed_sum}
 use lib.ListN.{length}
 use mathlib.Core.Path.{◌∙◌, ap, sym}
 use native.Mathlib.Nat.{mul-le-mul_left}
 use native.Mathlib.Omega.{arith}
-use borrow.Author.Rules.{rules}
 use Rattle.part.proofs.text.row_total.Goals as goal
 
 pub returns-then-is_fixed : goal.returns-then-is_fixed

@@ -1,10 +1,8 @@
 -- `part::text::spaces` meets its contract. The invariant: those counted and those that are left are all.
 use Prim.Native.Nat.{◌+◌, ◌-◌, ◌≤◌}
-use Rattle.part.proofs.Lines.{sum_rest, sum_none, space_most}
-use Rattle.part.specs.Code.{is_space, spaces_in}
-use lib.ListN.{length, drop, get_or}
+use Rattle.part.specs.Code.{spaces_in}
+use lib.ListN.{length, drop}
 use mathlib.Core.Path.{◌≡◌}
-use native.Mathlib.Omega.{arith}
 use Rattle.part.proofs.text.spaces.Given as goal
 
 abbrev pub invariant-loop-k : goal.invariant-loop-k

@@ -1,13 +1,12 @@
 -- `part::text::walk` meets its contract. The invariant: the characters that are left end, from i, as all do from the start.
-use Prim.Native.Nat.{◌+◌, ◌-◌, ◌<◌, ◌≤◌}
-use mathlib.Core.Path.{◌≡◌, sym, ◌∙◌}
-use mathlib.Core.Logic.{inl, inr, ⊎_elim}
+use Prim.Native.Nat.{◌+◌}
+use mathlib.Core.Path.{sym, ◌∙◌}
+use mathlib.Core.Logic.{inl, inr}
 use native.Mathlib.Omega.{arith}
 use borrow.Author.Rules.{rules}
-use lib.ListN.{length, drop}
-use Rattle.part.specs.Code.{walked}
 use Rattle.part.proofs.Lines.{Clear, goes_on, halts, arrives, off_start, off_end, too_low, too_high, moves}
 use Rattle.part.proofs.text.walk.Goals as goal
+use Rattle.part.proofs.text.walk.Goals.{then-l+else-i-lt-ORIGIN+else-l-end, else-l}
 
 pub returns-then-i-lt-ORIGIN : goal.returns-then-i-lt-ORIGIN
 returns-then-i-lt-ORIGIN c =
@@ -24,21 +23,21 @@ returns-then-l-end c =
 pub returns-then-to-l : goal.returns-then-to-l
 returns-then-to-l c =
     let a = c.args in
-    let clear : Clear a.l c.loop-k.i (c.loop-k.i + c.width.result + a.l.plus) = ⊎_elim (λ w. inr (w.1.left, omega (arith, w.3.left))) (λ w. inl w.left) c.if-l.branch in
+    let clear : Clear a.l c.loop-k.i (c.loop-k.i + c.width.result + a.l.plus) = elim c.if-l.branch [ then-l+else-i-lt-ORIGIN+else-l-end w ↦ inr (w.if-i-lt-ORIGIN.false, omega arith) | else-l w ↦ inl w.if-l.false ] in
     let step = too_low a.row.now a.l c.loop-k.i c.width.result clear c.if-to-l.true in
     (sym (halts a.row.now a.l a.t.now c.loop-k.k c.loop-k.i (search rules) c.width.ensures.0 step) ∙ c.loop-k.invariant.1.1, search rules)
 
 pub returns-then-next-gt-LAST : goal.returns-then-next-gt-LAST
 returns-then-next-gt-LAST c =
     let a = c.args in
-    let clear : Clear a.l c.loop-k.i (c.loop-k.i + c.width.result + a.l.plus) = ⊎_elim (λ w. inr (w.1.left, omega (arith, w.3.left))) (λ w. inl w.left) c.if-l.branch in
+    let clear : Clear a.l c.loop-k.i (c.loop-k.i + c.width.result + a.l.plus) = elim c.if-l.branch [ then-l+else-i-lt-ORIGIN+else-l-end w ↦ inr (w.if-i-lt-ORIGIN.false, omega arith) | else-l w ↦ inl w.if-l.false ] in
     let step = too_high a.row.now a.l c.loop-k.i c.width.result clear c.if-to-l.false c.if-next-gt-LAST.true in
     (sym (halts a.row.now a.l a.t.now c.loop-k.k c.loop-k.i (search rules) c.width.ensures.0 step) ∙ c.loop-k.invariant.1.1, search rules)
 
 pub loop-k-preserved : goal.loop-k-preserved
 loop-k-preserved c =
     let a = c.args in
-    let clear : Clear a.l c.loop-k.i (c.loop-k.i + c.width.result + a.l.plus) = ⊎_elim (λ w. inr (w.1.left, omega (arith, w.3.left))) (λ w. inl w.left) c.if-l.branch in
+    let clear : Clear a.l c.loop-k.i (c.loop-k.i + c.width.result + a.l.plus) = elim c.if-l.branch [ then-l+else-i-lt-ORIGIN+else-l-end w ↦ inr (w.if-i-lt-ORIGIN.false, omega arith) | else-l w ↦ inl w.if-l.false ] in
     let step = moves a.row.now a.l c.loop-k.i c.width.result clear c.if-to-l.false c.if-next-gt-LAST.false in
     (search rules, (search rules, goes_on a.row.now a.l a.t.now c.loop-k.k c.loop-k.i (search rules) c.width.ensures.0 step ∙ c.loop-k.invariant.1.1))
 

@@ -1,11 +1,8 @@
 -- `part::text::walk` meets its contract. The invariant: the characters that are left end, from i, as all do from the start.
-use Prim.Native.Nat.{◌+◌, ◌-◌, ◌<◌, ◌≤◌}
-use mathlib.Core.Path.{◌≡◌, sym, ◌∙◌}
-use mathlib.Core.Logic.{inl, inr, ⊎_elim}
-use native.Mathlib.Omega.{arith}
+use Prim.Native.Nat.{◌-◌, ◌<◌, ◌≤◌}
+use mathlib.Core.Path.{◌≡◌}
 use lib.ListN.{length, drop}
 use Rattle.part.specs.Code.{walked}
-use Rattle.part.proofs.Lines.{Clear, goes_on, halts, arrives, off_start, off_end, too_low, too_high, moves}
 use Rattle.part.proofs.text.walk.Given as goal
 
 abbrev pub invariant-loop-k : goal.invariant-loop-k

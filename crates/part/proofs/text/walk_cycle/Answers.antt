@@ -1,10 +1,6 @@
 -- `part::text::walk_cycle` meets its contract. The invariant: the characters that are left end, from i, as all do from the start.
-use Prim.Native.Nat.{◌<◌}
-use mathlib.Core.Path.{◌≡◌, sym, ◌∙◌}
+use mathlib.Core.Path.{sym, ◌∙◌}
 use borrow.Author.Rules.{rules}
-use lib.Seq.{length-take-le}
-use Rattle.part.specs.Text.{cycle}
-use Rattle.part.specs.Code.{walked}
 use Rattle.part.proofs.Cycles.{cycle-take}
 use Rattle.part.proofs.Lines.{round_halts, round_on}
 use Rattle.part.proofs.text.walk_cycle.Goals as goal

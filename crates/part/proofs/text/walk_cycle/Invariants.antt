@@ -1,11 +1,8 @@
 -- `part::text::walk_cycle` meets its contract. The invariant: the characters that are left end, from i, as all do from the start.
 use Prim.Native.Nat.{◌<◌}
-use mathlib.Core.Path.{◌≡◌, sym, ◌∙◌}
-use lib.Seq.{length-take-le}
+use mathlib.Core.Path.{◌≡◌}
 use Rattle.part.specs.Text.{cycle}
 use Rattle.part.specs.Code.{walked}
-use Rattle.part.proofs.Cycles.{cycle-take}
-use Rattle.part.proofs.Lines.{round_halts, round_on}
 use Rattle.part.proofs.text.walk_cycle.Given as goal
 
 abbrev pub invariant-loop-left : goal.invariant-loop-left

@@ -1,9 +1,7 @@
 -- `part::types::misfit` meets its contract. The invariant: no row before k has the type. The code's table is the rule book's: one test that computes.
-use Prim.Native.Nat.{◌-◌}
-use Rattle.part.proofs.Rows.{cut_if, Seeking, seek, seek_found, seek_on, seek_none}
+use Rattle.part.proofs.Rows.{cut_if, seek, seek_found, seek_on, seek_none}
 use Rattle.part.proofs.Verdicts.{pointing}
 use Rattle.part.specs.Types.{types}
-use borrow.Author.Rules.{rules}
 use mathlib.Core.Path.{refl, sym, ◌∙◌, ap}
 use native.Mathlib.Omega.{arith}
 use Rattle.part.proofs.types.misfit.Goals as goal
