@@ -17,9 +17,5 @@ pub mod Rising
 pub mod Repeating
 pub mod Telling
 pub mod Coding
-pub mod Cases
-pub mod Left
-pub mod Steps
-pub mod Thin
-pub mod Scan
 pub mod Counts
+pub mod Thin

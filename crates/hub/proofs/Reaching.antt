@@ -145,7 +145,7 @@ module _ (widths : List ℕ) where
     records-size = rw (step_is h r) (with_length h.records (slot_of r) _ (fits h r))
 
     pub step-lent : (q : Request) → is_lent widths (step widths h r).after q ≡ is_lent widths h q
-    step-lent q = rw (step_is h r) (put_lent h (slot_of r) _ _ _ (fits h r) h.stored q)
+    step-lent q = rw (step_is h r) (put_lent h (slot_of r) (seen h r).entry (seen h r).area (number h r) (fits h r) h.stored q)
 
     pub other_entry : (slot : ℕ) → (slot_of r ≡ slot → ⊥) → entry_of (step widths h r).after slot ≡ entry_of h slot
     other_entry slot n = rw (step_is h r) (get_or-set_other h.table (slot_of r) slot _ fresh (λ e. n (sym e)))

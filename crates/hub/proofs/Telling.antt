@@ -4,7 +4,7 @@
 use Prim.Native.Nat.{ℕ, zero, suc, ◌+◌, ◌-◌, ◌≤◌, ◌<◌}
 use mathlib.Core.Path.{◌≡◌, refl, sym, ◌∙◌, ap}
 use mathlib.Core.Bool.{Bool, true, false, not, ◌&&◌, ◌||◌}
-use mathlib.Core.List.{List, [], ◌∷◌, map}
+use mathlib.Core.List.{List, map}
 use native.Mathlib.Omega.{arith}
 use lib.ListN.{length, take, length-take}
 use lib.Dec.{ltb, leb, eqb}
@@ -22,9 +22,9 @@ use Rattle.part.specs.declared.shapes.State.{State}
 use Rattle.part.specs.declared.shapes.Answer.{Answer}
 use Rattle.part.specs.declared.shapes.Interpreted.{Interpreted}
 use Rattle.part.proofs.Checks.{first_of, same_value}
-use Rattle.hub.specs.Entries.{is_open, is_open_under, damaged, all_written}
+use Rattle.hub.specs.Entries.{is_open, damaged, all_written}
 use Rattle.hub.specs.Requests.{may_open, judged, may_submit, is_one_of, may_take, may_close, out, decided, part_placed, opening, closing, submitting, taking, area_of, refusal, Hub, Request, Open, Submit, Take, Close, slot_of, is_lent, on_entry, step, steps}
-use Rattle.hub.specs.Accounts.{Job, Account, unused, running, ended, last_key, is_running, by_the_rules, places_from, to_open, to_close, goes_on, behind, to_part, to_submit, to_total, to_take, tells, is_well_lent, told, as_answer}
+use Rattle.hub.specs.Accounts.{Job, Account, unused, running, ended, last_key, is_running, places_from, to_open, to_close, goes_on, behind, to_part, to_submit, to_total, to_take, tells, is_well_lent, told, as_answer}
 use Rattle.hub.specs.Histories.{entry_of, printed, account}
 use Rattle.hub.specs.Promises.{counting, Fresh, IsCount, Kept, Agrees, ReadInAll, ReadOf, Tells}
 use Rattle.hub.specs.declared.jobs.Entry.{Entry}

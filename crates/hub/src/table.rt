@@ -27,8 +27,7 @@ const NO_SLOT: Answer = Answer {
 };
 
 // Opens a job under a key, with a descriptor; beside the table is lent the stored number of open jobs.
-#[unsafe(no_mangle)]
-pub extern "C" fn halviruso_open(
+pub fn halviruso_open(
     table: &mut [Entry],
     open_jobs: &mut u32,
     slot: u32,
@@ -55,8 +54,7 @@ pub extern "C" fn halviruso_open(
 }
 
 // Submits a part; the records it makes go to the slot's own 4,096 bytes.
-#[unsafe(no_mangle)]
-pub extern "C" fn halviruso_submit(
+pub fn halviruso_submit(
     table: &mut [Entry],
     records: &mut [u8],
     widths: &[u16],
@@ -91,8 +89,7 @@ pub extern "C" fn halviruso_submit(
 }
 
 // Takes records out of a job's area: so many bytes were read since it was opened. The unread ones move down to the start of the slot's own 4,096 bytes.
-#[unsafe(no_mangle)]
-pub extern "C" fn halviruso_take(
+pub fn halviruso_take(
     table: &mut [Entry],
     records: &mut [u8],
     slot: u32,
@@ -122,13 +119,7 @@ pub extern "C" fn halviruso_take(
 }
 
 // Closes the job of this key; beside the table is lent the stored number of open jobs.
-#[unsafe(no_mangle)]
-pub extern "C" fn halviruso_close(
-    table: &mut [Entry],
-    open_jobs: &mut u32,
-    slot: u32,
-    key: u32,
-) -> Answer
+pub fn halviruso_close(table: &mut [Entry], open_jobs: &mut u32, slot: u32, key: u32) -> Answer
     ensures { (widths records : List ℕ) →
         let s = step widths (hub table.old records open_jobs.old) (Close slot key) in
         (result ≡ s.answer) × (table.new ≡ s.after.table) × (records ≡ s.after.records) × (open_jobs.new ≡ s.after.stored) }
@@ -149,8 +140,7 @@ pub extern "C" fn halviruso_close(
 }
 
 // Counts the open jobs, damaged ones too; 0 for a table of another length.
-#[unsafe(no_mangle)]
-pub extern "C" fn halviruso_count(table: &[Entry]) -> u32
+pub fn halviruso_count(table: &[Entry]) -> u32
     ensures { result ≡ count_open table.now }
 {
     if table.len() != 16 {

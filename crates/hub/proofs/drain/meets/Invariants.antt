@@ -1,11 +1,9 @@
 -- `hub::drain::meets` meets its contract. The invariant: the place is met just when it is from here on.
-use Prim.Native.Nat.{ℕ, ◌+◌, ◌-◌, ◌*◌, ◌≤◌}
-use Rattle.hub.proofs.Boundaries.{no_step, near_end, a_step, one_step, at_place}
+use Prim.Native.Nat.{ℕ, ◌-◌, ◌≤◌}
 use Rattle.hub.specs.Requests.{is_one_of}
 use Rattle.part.specs.Records.{boundaries_from, boundaries}
-use lib.ListN.{length, drop, get_or}
-use mathlib.Core.Path.{◌≡◌, refl, sym, ◌∙◌, ap}
-use native.Mathlib.Omega.{arith}
+use lib.ListN.{length, drop}
+use mathlib.Core.Path.{◌≡◌}
 use Rattle.hub.proofs.drain.meets.Given as goal
 
 abbrev pub invariant-loop-at : goal.invariant-loop-at

@@ -1,12 +1,8 @@
 -- `hub::drain::move_block` meets its contract. The invariants: the first k bytes are read, and the first j of them are stored.
 use Prim.Native.Nat.{◌-◌, ◌≤◌}
-use Rattle.hub.proofs.Moving.{all_set}
-use Rattle.part.proofs.Stores.{one_more}
-use lib.ListN.{length, get_or, take, drop, set, replicate, length-drop}
-use lib.Seq.{sets, length-sets, get_or-drop, length-take-le, take_all}
-use mathlib.Core.Path.{◌≡◌, refl, sym, ◌∙◌, ap}
-use native.Mathlib.Nat.{zero-add}
-use native.Mathlib.Omega.{arith}
+use lib.ListN.{take, drop}
+use lib.Seq.{sets}
+use mathlib.Core.Path.{◌≡◌}
 use Rattle.hub.proofs.drain.move_block.Given as goal
 
 abbrev pub invariant-loop-k : goal.invariant-loop-k

@@ -1,10 +1,8 @@
 -- `hub::drain::move_bytes` meets its contract. The invariant: the first k bytes are moved.
 use Prim.Native.Nat.{◌-◌, ◌≤◌}
-use Rattle.hub.proofs.Moving.{move_one}
-use lib.ListN.{length, take, drop}
-use lib.Seq.{sets, length-sets}
-use mathlib.Core.Path.{◌≡◌, refl, ◌∙◌, ap}
-use native.Mathlib.Omega.{arith}
+use lib.ListN.{take, drop}
+use lib.Seq.{sets}
+use mathlib.Core.Path.{◌≡◌}
 use Rattle.hub.proofs.drain.move_bytes.Given as goal
 
 abbrev pub invariant-loop-k : goal.invariant-loop-k

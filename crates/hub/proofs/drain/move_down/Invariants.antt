@@ -1,11 +1,8 @@
 -- `hub::drain::move_down` meets its contract. The invariant: the first k bytes are moved.
-use Prim.Native.Nat.{◌+◌, ◌-◌, ◌≤◌}
-use Rattle.hub.proofs.Moving.{move_some, all_moved}
-use lib.ListN.{length, take, drop}
-use lib.Seq.{sets, length-sets}
-use mathlib.Core.Path.{◌≡◌, refl, sym, ◌∙◌, ap}
-use native.Mathlib.Nat.{zero-add}
-use native.Mathlib.Omega.{arith}
+use Prim.Native.Nat.{◌-◌, ◌≤◌}
+use lib.ListN.{take, drop}
+use lib.Seq.{sets}
+use mathlib.Core.Path.{◌≡◌}
 use Rattle.hub.proofs.drain.move_down.Given as goal
 
 abbrev pub invariant-loop-k : goal.invariant-loop-k

@@ -1,0 +1,15 @@
+-- `hub::table::halviruso_count` meets its contract: no open job in a table of another length, and at the end of the walk all of them.
+use Rattle.std.proofs.Common.{eq-eqb, ne_eqb, refl, ap, arith}
+use Rattle.std.proofs.lemmas.List.{drop_all}
+use Rattle.hub.specs.Requests.{open_jobs, count_open}
+use Rattle.hub.proofs.table.halviruso_count.Goals as goal
+
+pub returns-then-table-ne16 : goal.returns-then-table-ne16
+unfolding count_open
+returns-then-table-ne16 c = rw (ne_eqb _ _ c.if-table-ne16.true) refl
+
+pub returns : goal.returns
+unfolding count_open
+returns c =
+    let none = ap open_jobs (drop_all c.loop-i.i c.args.table.now c.loop-i-test.false) in
+    rw (eq-eqb _ _ c.if-table-ne16.false) (omega (arith, c.loop-i.invariant.1.1, none))
