@@ -5,8 +5,7 @@ ghost use Rattle.host.specs.Checked.{checked_at, checked};
 use part::sheet::{on_sheet, sheet_state};
 
 // 0 where the rules accept the part on the paper's sheet at some increment; else 19 to 29. 15 where no descriptor has such an increment.
-#[unsafe(no_mangle)]
-pub extern "C" fn halviruso_check_at(part: &[u8], increment: u32) -> u32
+pub fn halviruso_check_at(part: &[u8], increment: u32) -> u32
     ensures { result ≡ checked_at increment part.now }
 {
     if increment > 32767 {
@@ -18,8 +17,7 @@ pub extern "C" fn halviruso_check_at(part: &[u8], increment: u32) -> u32
 }
 
 // The same at eight lines to the inch.
-#[unsafe(no_mangle)]
-pub extern "C" fn halviruso_check(part: &[u8]) -> u32
+pub fn halviruso_check(part: &[u8]) -> u32
     ensures { result ≡ checked part.now }
 {
     halviruso_check_at(part, 180)

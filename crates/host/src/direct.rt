@@ -6,8 +6,7 @@ use part::interpret::interpret;
 use part::shapes::{Descriptor, Interpreted, State};
 
 // Interprets a part from a state; its records are added to the area.
-#[unsafe(no_mangle)]
-pub extern "C" fn halviruso_interpret(
+pub fn halviruso_interpret(
     part: &[u8],
     widths: &[u16],
     area: &mut [u8],

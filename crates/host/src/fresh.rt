@@ -52,8 +52,7 @@ fn fresh_entry() -> Entry
 }
 
 // A fresh table: every slot closed, every last key 0.
-#[unsafe(no_mangle)]
-pub extern "C" fn halviruso_fresh() -> Table
+pub fn halviruso_fresh() -> Table
     ensures { result.entries ≡ fresh_table }
 {
     let entries = [fresh_entry(); 16];
