@@ -19,3 +19,4 @@ pub mod Telling
 pub mod Coding
 pub mod Counts
 pub mod Thin
+pub mod Trials

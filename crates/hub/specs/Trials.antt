@@ -1,20 +1,12 @@
--- "Requests to try": rows for every line of "Requests and their order", each with all that is lent before and after.
-use Rattle.std.specs.Prelude.{ℕ, ◌-◌, ◌%◌, ◌≡◌, refl, List, [], ◌∷◌, ◌++◌, map, replicate, length, take, drop}
+-- "Requests to try": rows for every line of "Requests and their order", each with all that is lent before and after. `proofs/Trials.antt` has that they hold.
+use Rattle.std.specs.Prelude.{ℕ, ◌-◌, ◌%◌, List, [], ◌∷◌, ◌++◌, replicate, length, take, drop}
 use Rattle.part.specs.Numbers.{little}
-use Rattle.part.specs.Ranges.{descriptor_fields, state_fields}
-use Rattle.part.specs.Types.{types}
-use Rattle.part.specs.Reading.{sequence, element, cut_from, cut}
-use Rattle.part.specs.Records.{bytes_of, boundaries}
-use Rattle.part.specs.Presenting.{moved}
-use Rattle.part.specs.Text.{character, characters, cycle}
-use Rattle.part.specs.Place.{place_text, place_rule, place}
-use Rattle.part.specs.Part.{placed, passed_by, elements_by, admitted, outcome, interpreted, area_after}
 use Rattle.part.specs.Sheets.{hex, gives, width_table, blank, on, stands, job_of, job, halfway, start}
 use Rattle.part.specs.declared.shapes.Descriptor.{Descriptor}
 use Rattle.part.specs.declared.shapes.State.{State}
 use Rattle.part.specs.declared.shapes.Answer.{Answer}
-use Rattle.hub.specs.Entries.{entry_fields, fresh, fresh_table}
-use Rattle.hub.specs.Requests.{may_open, judged, may_submit, may_take, may_close, opening, closing, one_more, one_less, submitting, area_filled, taking, area_left, Hub, hub, Request, Open, Submit, Take, Close, step, steps, count_open}
+use Rattle.hub.specs.Entries.{fresh_table}
+use Rattle.hub.specs.Requests.{submitting, taking, area_left, Hub, hub, Request, Open, Submit, Take, Close, step, steps, count_open}
 use Rattle.hub.specs.declared.jobs.Entry.{Entry}
 
 -- how many widths and what else is lent; requests before, and one; its answer, what is left, and the jobs that are open then
@@ -316,7 +308,3 @@ asked (drains e area key total after left code) =
 asked (lone e key number part after a) =
     let r = submitting (width_table 1024) key number part (blank 4096) e in
     lone e key number part r.entry r.answer
-
-pub trials-hold : map asked trials ≡ trials
-unfolding trials asked step_taken step steps count_open opening closing one_more one_less submitting area_filled taking area_left may_open judged may_submit may_take may_close boundaries entry_fields fresh descriptor_fields state_fields types sequence element cut_from cut bytes_of moved character characters cycle place_text place_rule place placed passed_by elements_by admitted outcome interpreted area_after
-trials-hold = refl

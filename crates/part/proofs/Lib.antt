@@ -34,3 +34,4 @@ pub mod Texts
 pub mod Turns
 pub mod Verdicts
 pub mod Words
+pub mod Sheets

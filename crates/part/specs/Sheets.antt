@@ -1,17 +1,14 @@
--- "Sheets to try", as one list and one theorem: every row that is about parts alone; and more rows, for what those do not show.
-use Rattle.std.specs.Prelude.{ℕ, zero, suc, ◌+◌, ◌-◌, ◌/◌, ◌%◌, ◌≡◌, refl, Bool, true, false, List, [], ◌∷◌, ◌++◌, map, replicate, length, eqb}
+-- "Sheets to try", as one list: every row that is about parts alone; and more rows, for what those do not show. `proofs/Sheets.antt` has that they hold.
+use Rattle.std.specs.Prelude.{ℕ, zero, suc, ◌+◌, ◌-◌, ◌/◌, ◌%◌, Bool, true, false, List, [], ◌∷◌, ◌++◌, map, replicate, length, eqb}
 use Rattle.part.specs.Numbers.{origin, ones}
 use Rattle.part.specs.Checks.{Checked, fine, fault}
 use Rattle.part.specs.States.{point, state}
 use Rattle.part.specs.Ranges.{hold, descriptor_fields, state_fields}
-use Rattle.part.specs.Types.{types}
-use Rattle.part.specs.Reading.{sequence, element, cut_from, cut}
-use Rattle.part.specs.Records.{Item, text_item, rule_item, bytes_of, is_whole, is_empty, boundaries}
-use Rattle.part.specs.Presenting.{moved}
-use Rattle.part.specs.Text.{character, characters, cycle}
-use Rattle.part.specs.Place.{Effect, place_text, place_rule, place}
+use Rattle.part.specs.Reading.{cut}
+use Rattle.part.specs.Records.{Item, text_item, rule_item, is_whole, is_empty, boundaries}
+use Rattle.part.specs.Place.{Effect}
 use Rattle.part.specs.Drawing.{all_on_sheet}
-use Rattle.part.specs.Part.{placed, passed_by, elements_by, elements, admitted, outcome, interpreted, area_after}
+use Rattle.part.specs.Part.{elements, outcome, interpreted, area_after}
 use Rattle.part.specs.declared.shapes.Point.{Point}
 use Rattle.part.specs.declared.shapes.Descriptor.{Descriptor}
 use Rattle.part.specs.declared.shapes.State.{State}
@@ -132,10 +129,6 @@ computed s =
 -- the same sheet, its place as it is kept
 abbrev pub kept : Sheet → Sheet
 kept s = sheet s.width s.earlier s.first s.part s.answer (origin + s.i) (origin + s.b) s.shown
-
-pub sheets-hold : map computed sheets ≡ map kept sheets
-unfolding sheets computed descriptor_fields state_fields types sequence element cut_from cut bytes_of moved character characters cycle place_text place_rule place placed passed_by elements_by admitted outcome interpreted area_after
-sheets-hold = refl
 
 -- ---- more rows, each with all that is given and all that is left
 
@@ -476,10 +469,6 @@ tried (fails s part code at) = fails s part (code_of (alone s part)) (offset_of 
 tried (ranged s ok) = ranged s (hold (state_fields s))
 tried (described d ok) = described d (hold (descriptor_fields d))
 
-pub further-hold : map tried further ≡ further
-unfolding further tried wholly descriptor_fields state_fields types sequence element cut_from cut bytes_of moved character characters cycle place_text place_rule place placed passed_by elements_by admitted outcome interpreted area_after
-further-hold = refl
-
 -- ---- records read back
 
 -- some bytes, whether they begin with a whole record and whether that is empty, and their boundaries
@@ -519,10 +508,6 @@ read_back =
 -- such a row as the definitions have it
 abbrev pub read_again : ReadBack → ReadBack
 read_again r = reads r.bytes (is_whole r.bytes) (is_empty r.bytes) (boundaries r.bytes)
-
-pub read_back_hold : map read_again read_back ≡ read_back
-unfolding read_back boundaries
-read_back_hold = refl
 
 -- ---- records that lie on the sheet, and beyond it by one
 
@@ -577,7 +562,3 @@ lyings =
 -- such a row as the definitions have it
 abbrev pub lain : Lying → Lying
 lain l = lying l.items (all_on_sheet (width_table 1024) job l.items)
-
-pub lyings-hold : map lain lyings ≡ lyings
-unfolding lyings
-lyings-hold = refl
