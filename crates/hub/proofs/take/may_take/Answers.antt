@@ -49,8 +49,9 @@ returns-then-not-meets c =
     let a = c.args in
     let more = c.if-total-taken.false in
     let used = c.wide-used.ensures.0 in
+    let left = c.if-used-more.false in
     let met = sym c.meets.ensures ∙ c.if-not-meets.true in
-    rw (sym c.is_damaged.ensures ∙ c.if-is_damaged.false, sym c.is_open_under.ensures ∙ c.if-not-is_open_under.false, lt-ltb a.e.taken a.total more, le-leb a.total 4294967295 c.if-total-gt4294967295.false, le-leb a.total (all_written a.e) (omega (arith, more, used, c.if-used-more.false)), rw used at met)
+    rw (sym c.is_damaged.ensures ∙ c.if-is_damaged.false, sym c.is_open_under.ensures ∙ c.if-not-is_open_under.false, lt-ltb a.e.taken a.total more, le-leb a.total 4294967295 c.if-total-gt4294967295.false, le-leb a.total (all_written a.e) (omega (arith, more, used, left)), rw used at met)
 
 pub returns : goal.returns
 unfolding may_take
@@ -58,5 +59,6 @@ returns c =
     let a = c.args in
     let more = c.if-total-taken.false in
     let used = c.wide-used.ensures.0 in
+    let within = c.if-used-more.false in
     let met = sym c.meets.ensures ∙ c.if-not-meets.false in
-    rw (sym c.is_damaged.ensures ∙ c.if-is_damaged.false, sym c.is_open_under.ensures ∙ c.if-not-is_open_under.false, lt-ltb a.e.taken a.total more, le-leb a.total 4294967295 c.if-total-gt4294967295.false, le-leb a.total (all_written a.e) (omega (arith, more, used, c.if-used-more.false)), rw used at met)
+    rw (sym c.is_damaged.ensures ∙ c.if-is_damaged.false, sym c.is_open_under.ensures ∙ c.if-not-is_open_under.false, lt-ltb a.e.taken a.total more, le-leb a.total 4294967295 c.if-total-gt4294967295.false, le-leb a.total (all_written a.e) (omega (arith, more, used, within)), rw used at met)

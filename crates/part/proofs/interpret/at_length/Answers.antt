@@ -50,7 +50,8 @@ overflow_sub-size c =
     let d = descriptor_of a.d.now in
     let s = a.s in
     let u = c.added-r in
-    let done = whole widths d s part area c.requires u.result.count (state_of u.new.w) u.new.area (rw (c.working-w.ensures, c.wide.ensures.0, c.if-r-ne0.false) at u.ensures.added) in
+    let passed = c.if-r-ne0.false in
+    let done = whole widths d s part area c.requires u.result.count (state_of u.new.w) u.new.area (rw (c.working-w.ensures, c.wide.ensures.0, passed) at u.ensures.added) in
     done.0
 
 pub returns : goal.returns
@@ -62,5 +63,6 @@ returns c =
     let d = descriptor_of a.d.now in
     let s = a.s in
     let u = c.added-r in
-    let done = whole widths d s part area c.requires u.result.count (state_of u.new.w) u.new.area (rw (c.working-w.ensures, c.wide.ensures.0, c.if-r-ne0.false) at u.ensures.added) in
+    let all = c.if-r-ne0.false in
+    let done = whole widths d s part area c.requires u.result.count (state_of u.new.w) u.new.area (rw (c.working-w.ensures, c.wide.ensures.0, all) at u.ensures.added) in
     record { value = c.accepted.ensures ∙ done.1; area_after = done.2 }
