@@ -1,23 +1,20 @@
 // The part from standard input.
-ghost use Rattle.std.specs.Prelude.{◌≤◌, length};
+ghost use Rattle.std.specs.Prelude.{◌≤◌, IfOk, length};
 
-use libc::STDIN_FILENO;
+use std::io;
+use std::io::Read;
 
-// Reads until the buffer is full or the input ends, and answers how many bytes it put at its start; -1 where a read fails.
-pub fn read_part(part: &mut [u8]) -> isize
-    requires { length part.old ≤ 8193 }
+// Reads until the buffer is full or the input ends, and answers how many bytes it put at its start.
+pub fn read_part<R: Read>(input: &mut R, part: &mut [u8]) -> io::Result<usize>
+    ensures { IfOk result (λ n. n ≤ length part.new) }
 {
     let mut done: usize = 0;
     while done < part.len() {
-        let got = libc::read(STDIN_FILENO, &mut part[done..]);
-        if got < 0 {
-            return -1;
-        }
-        let n = io::count(got, &part[done..]);
+        let n = input.read(&mut part[done..])?;
         if n == 0 {
-            return done as isize;
+            return Ok(done);
         }
         done += n;
     }
-    done as isize
+    Ok(done)
 }

@@ -1,7 +1,6 @@
 // The listing of one part.
 ghost use Rattle.std.specs.Prelude.{◌≡◌, ◌+◌, ◌≤◌, length, take};
 ghost use Rattle.std.proofs.lemmas.List.Edits.{sets};
-ghost use Rattle.io.specs.Counts.{IsPrefixLen};
 ghost use Rattle.lister.specs.Listing.{plain as plain_number, position as position_number, part_line, end_line, refused_line, listing};
 
 use super::records::put_records;
@@ -57,8 +56,8 @@ fn put_refused(out: &mut [u8], at: usize, r: Interpreted) -> usize
 // Lists a part that was read, into a buffer that holds every listing, and answers how many bytes that are.
 pub fn list(part: &[u8], increment: u32, out: &mut [u8]) -> usize
     requires { (length part.now ≤ 8193) × (16384 ≤ length out.old) }
-    ensures prefix_len { IsPrefixLen result out.new }
-    ensures out_after { take result out.new ≡ listing increment part.now }
+    ensures within { (result ≤ length out.new) × (result ≡ length (take result out.new)) }
+    ensures listed { take result out.new ≡ listing increment part.now }
 {
     let mut area = [0u8; 4096];
     let r = on_sheet(part, 144, increment, &mut area, sheet_state(increment));

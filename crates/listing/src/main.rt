@@ -1,6 +1,9 @@
 // Lists one part from standard input at eight lines to the inch: how much was read, its records, and how it ended.
-use lister::program::list_input;
+#![tactic(auto)]
 
-fn main() {
-    list_input(180);
+use lister::program::list_input;
+use std::process::ExitCode;
+
+fn main(rt: HostRuntime) -> ExitCode {
+    list_input(&rt, 180)
 }
