@@ -9,6 +9,9 @@ use part::numbers::wide;
 use part::shapes::Interpreted;
 use part::sheet::{on_sheet, sheet_state};
 
+// The code of a part that was interpreted to its end; any other refuses it.
+const DONE: u32 = 0;
+
 fn plain(n: u32) -> u64
     ensures { result ≡ plain_number n }
 {
@@ -62,7 +65,7 @@ pub fn list(part: &[u8], increment: u32, out: &mut [u8]) -> usize
     let mut area = [0u8; 4096];
     let r = on_sheet(part, 144, increment, &mut area, sheet_state(increment));
     let to = put_part(out, 0, part.len());
-    if r.answer.code != 0 {
+    if r.answer.code != DONE {
         return put_refused(out, to, r);
     }
     let used = wide(r.state.used);

@@ -83,8 +83,8 @@ fn put_record(out: &mut [u8], at: usize, r: &[u8]) -> usize
 // The lines of some records, as long as they are whole.
 pub fn put_records(out: &mut [u8], at: usize, bytes: &[u8]) -> usize
     requires { (length bytes.now ≤ 4096) × (at + 3 * length bytes.now ≤ length out.old) }
-    ensures value { (result ≡ at + length (record_lines 256 bytes.now)) × (out.new ≡ sets out.old at (record_lines 256 bytes.now)) }
-    ensures upper_bound { result ≤ at + 3 * length bytes.now }
+    ensures lines { (result ≡ at + length (record_lines 256 bytes.now)) × (out.new ≡ sets out.old at (record_lines 256 bytes.now)) }
+    ensures short { result ≤ at + 3 * length bytes.now }
 {
     let mut k: usize = 0;
     let mut to = at;

@@ -1,11 +1,11 @@
 // Bytes in capital hexadecimal, read and written.
-ghost use Rattle.std.specs.Prelude.{◌≡◌, ◌+◌, ◌-◌, ◌*◌, ◌/◌, ◌≤◌, ◌<◌, min, length};
-ghost use Rattle.io.specs.Counts.{IsPrefixLen};
+ghost use Rattle.std.specs.Prelude.{◌≡◌, ◌+◌, ◌-◌, ◌*◌, ◌/◌, ◌≤◌, ◌<◌, min, length, take};
 ghost use Rattle.sheets.specs.Hex.{digit_of, byte_of, Spelled};
 
-use libc::STDOUT_FILENO;
+use std::io;
 
 // The number of a digit; of any other character 0.
+#[tactic(auto, unfolding(crate::specs::Hex::digit_of))]
 fn digit_value(c: u8) -> u8
     ensures { (result ≡ digit_of c) × (result < 16) }
 {
@@ -42,8 +42,8 @@ fn least(a: usize, b: usize) -> usize
 // Puts the bytes of a text into `out` from `at` on, as many as there is room for, and answers where they end.
 pub fn decode(hex: &[u8], at: usize, out: &mut [u8]) -> usize
     requires { at ≤ length out.old }
-    ensures prefix_len { IsPrefixLen result out.new }
-    ensures value { result ≡ at + min (length hex.now / 2) (length out.old - at) }
+    ensures within { (result ≤ length out.new) × (result ≡ length (take result out.new)) }
+    ensures end { result ≡ at + min (length hex.now / 2) (length out.old - at) }
     ensures spelled { Spelled hex.now at (result - at) out.new }
 {
     let n = least(hex.len() / 2, out.len() - at);
@@ -61,11 +61,9 @@ fn digit(n: u8) -> u8 {
     if d < 10 { b'0' + d } else { b'A' + (d - 10) }
 }
 
-pub fn show_bytes(bytes: &[u8]) {
-    let mut k: usize = 0;
-    while k < bytes.len() {
-        let text = [digit(bytes[k] / 16), digit(bytes[k])];
-        io::write_all(STDOUT_FILENO, &text);
-        k += 1;
+pub fn show_bytes(rt: &impl Print, bytes: &[u8]) -> io::Result<()> {
+    for b in bytes {
+        rt.write_all(&[digit(*b / 16), digit(*b)])?;
     }
+    Ok(())
 }

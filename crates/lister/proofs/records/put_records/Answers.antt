@@ -1,5 +1,5 @@
 -- A record more, where the rest begins with a whole one; else no line is left to be put.
-use Rattle.std.proofs.Common.{◌+◌, length, take, drop, refl, ap, sym, ◌∙◌, arith}
+use Rattle.std.proofs.Common.{◌+◌, take, drop, refl, sym, ◌∙◌, arith}
 use Rattle.lister.specs.Listing.{record_line, record_lines}
 use Rattle.lister.proofs.Puts.{onward, at-end}
 use Rattle.lister.proofs.Lines.{line_short, lines_none, next, step, no_next, none-behind, its_bytes, its_length}
@@ -8,8 +8,8 @@ use Rattle.lister.proofs.records.put_records.Goals as goal
 pub loop-k-init : goal.loop-k-init
 loop-k-init c = (omega arith, (omega arith, (refl, (256, (omega arith, (refl, refl))))))
 
-pub returns-then-not-is_whole-clause-value : goal.returns-then-not-is_whole-clause-value
-returns-then-not-is_whole-clause-value c =
+pub returns-then-not-is_whole-clause-lines : goal.returns-then-not-is_whole-clause-lines
+returns-then-not-is_whole-clause-lines c =
     let a = c.args in
     let l = c.loop-k in
     let none = lines_none l.invariant.1.1.1.0 (drop l.k a.bytes.now) (no_next a.bytes.now l.k l.invariant.0 (sym c.is_whole.ensures ∙ c.if-not-is_whole.true)) in
@@ -29,8 +29,8 @@ loop-k-preserved c =
     let left = onward a.out.now a.at (record_lines 256 bytes) l.out l.to (record_line (take width (drop l.k bytes))) (record_lines s.later (drop (l.k + width) bytes)) _ _ (rw s.lines at l.invariant.1.1.1.1.1) is in
     (n.within, (omega (arith, is.0, short, its, n.within, l.invariant.1.0), (c.put_record-to.auto.out ∙ l.invariant.1.1.0, (s.later, (s.enough, left)))))
 
-pub returns-clause-value : goal.returns-clause-value
-returns-clause-value c =
+pub returns-clause-lines : goal.returns-clause-lines
+returns-clause-lines c =
     let a = c.args in
     let l = c.loop-k in
     let none = lines_none l.invariant.1.1.1.0 (drop l.k a.bytes.now) (none-behind a.bytes.now l.k c.loop-k-test.false) in

@@ -1,11 +1,9 @@
 -- `lister::records::put_records` meets its contract. The invariant: what is left to be put are the lines of the records from k on.
 use Prim.Native.Nat.{ℕ, ◌+◌, ◌-◌, ◌*◌, ◌≤◌}
-use mathlib.Core.Path.{◌≡◌, refl, ◌∙◌, ap, sym}
-use native.Mathlib.Omega.{arith}
-use lib.ListN.{length, take, drop}
-use Rattle.lister.specs.Listing.{record_line, record_lines}
-use Rattle.lister.proofs.Puts.{Left, onward, at-end}
-use Rattle.lister.proofs.Lines.{line_short, lines_none, next, step, no_next, none-behind, its_bytes, its_length}
+use mathlib.Core.Path.{◌≡◌}
+use lib.ListN.{length, drop}
+use Rattle.lister.specs.Listing.{record_lines}
+use Rattle.lister.proofs.Puts.{Left}
 use Rattle.lister.proofs.records.put_records.Given as goal
 
 abbrev pub invariant-loop-k : goal.invariant-loop-k

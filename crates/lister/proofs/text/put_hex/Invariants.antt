@@ -1,11 +1,9 @@
 -- `lister::text::put_hex` meets its contract. The invariant: what is left to be put are the digits of the bytes from k on.
 use Prim.Native.Nat.{◌+◌, ◌-◌, ◌*◌, ◌≤◌}
-use mathlib.Core.Path.{◌≡◌, refl, ◌∙◌}
-use native.Mathlib.Omega.{arith}
-use lib.ListN.{length, get_or, drop}
-use Rattle.lister.specs.Lines.{hex_byte, hex_bytes}
-use Rattle.lister.proofs.Puts.{Left, onward, at-end}
-use Rattle.lister.proofs.Each.{each_none, each_more}
+use mathlib.Core.Path.{◌≡◌}
+use lib.ListN.{length, drop}
+use Rattle.lister.specs.Lines.{hex_bytes}
+use Rattle.lister.proofs.Puts.{Left}
 use Rattle.lister.proofs.text.put_hex.Given as goal
 
 abbrev pub invariant-loop-k : goal.invariant-loop-k

@@ -1,5 +1,5 @@
 -- A number more: a space and it are put behind those before it.
-use Rattle.std.proofs.Common.{ℕ, ◌+◌, [], ◌∷◌, get_or, drop, arith, ◌∙◌}
+use Rattle.std.proofs.Common.{◌+◌, [], ◌∷◌, get_or, drop, arith, ◌∙◌}
 use Rattle.lister.specs.Lines.{space, numeral, numbers}
 use Rattle.lister.proofs.Puts.{then, onward, at-end}
 use Rattle.lister.proofs.Digits.{number_short}

@@ -1,13 +1,9 @@
 -- `lister::text::put_numbers` meets its contract. The invariant: what is left to be put are the numbers from k on.
 use Prim.Native.Nat.{◌+◌, ◌-◌, ◌*◌, ◌≤◌}
-use mathlib.Core.Path.{◌≡◌, refl, ◌∙◌}
-use mathlib.Core.List.{[], ◌∷◌}
-use native.Mathlib.Omega.{arith}
-use lib.ListN.{length, get_or, drop}
-use Rattle.lister.specs.Lines.{space, numeral, numbers}
-use Rattle.lister.proofs.Puts.{Left, then, onward, at-end}
-use Rattle.lister.proofs.Digits.{number_short}
-use Rattle.lister.proofs.Each.{each_none, each_more}
+use mathlib.Core.Path.{◌≡◌}
+use lib.ListN.{length, drop}
+use Rattle.lister.specs.Lines.{numbers}
+use Rattle.lister.proofs.Puts.{Left}
 use Rattle.lister.proofs.text.put_numbers.Given as goal
 
 abbrev pub invariant-loop-k : goal.invariant-loop-k

@@ -1,10 +1,8 @@
 -- `lister::text::put_word` meets its contract. The invariant: the first k characters are put.
 use Prim.Native.Nat.{◌-◌, ◌≤◌}
-use Rattle.part.proofs.Stores.{one_more, all_of}
 use lib.ListN.{length, take}
-use lib.Seq.{sets, length-sets}
-use mathlib.Core.Path.{◌≡◌, refl, ◌∙◌, ap}
-use native.Mathlib.Omega.{arith}
+use lib.Seq.{sets}
+use mathlib.Core.Path.{◌≡◌}
 use Rattle.lister.proofs.text.put_word.Given as goal
 
 abbrev pub invariant-loop-k : goal.invariant-loop-k
