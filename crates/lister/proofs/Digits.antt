@@ -8,7 +8,7 @@ use native.Mathlib.Omega.{arith}
 use borrow.Author.Tests.{lt-ltb, le-ltb}
 use lib.ListN.{length, length-append}
 use lib.Dec.{ltb}
-use Rattle.part.specs.Numbers.{if◌then◌else◌}
+use Rattle.std.specs.Prelude.{if◌then◌else◌}
 use Rattle.lister.specs.Lines.{digits, space, minus_sign, middle, numeral, numbers, hex_byte, hex_bytes}
 use Rattle.lister.proofs.Each.{each_short}
 

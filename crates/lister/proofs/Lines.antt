@@ -9,7 +9,7 @@ use borrow.Author.Tests.{leb-true, eqb-true}
 use lib.ListN.{length, length-append, take, drop, length-drop, drop_of_length-le}
 use lib.Seq.{take_all, length-take-le, drop-drop}
 use lib.Dec.{leb, eqb}
-use Rattle.part.specs.Numbers.{if◌then◌else◌}
+use Rattle.std.specs.Prelude.{if◌then◌else◌}
 use Rattle.part.specs.Records.{little_at, is_whole}
 use Rattle.lister.specs.Lines.{space, newline, hex_bytes, numbers}
 use Rattle.lister.specs.Listing.{«T», «R», text_numbers, rule_numbers, text_line, rule_line, record_line, record_lines}

@@ -1,6 +1,6 @@
 -- "The listing program": what it prints for the bytes that it has read.
-use Rattle.std.specs.Prelude.{ℕ, zero, suc, ◌+◌, ◌≡◌, refl, List, [], ◌∷◌, ◌++◌, true, false, length, take, drop, replicate, ltb, eqb}
-use Rattle.part.specs.Numbers.{if◌then◌else◌, origin}
+use Rattle.std.specs.Prelude.{ℕ, zero, suc, ◌+◌, ◌≡◌, refl, List, [], ◌∷◌, ◌++◌, true, false, length, take, drop, replicate, if◌then◌else◌, ltb, eqb}
+use Rattle.part.specs.Numbers.{origin}
 use Rattle.part.specs.Records.{bytes_of, little_at, is_whole}
 use Rattle.part.specs.Part.{placed, passed_by, elements_by, admitted, outcome, interpreted, area_after}
 use Rattle.part.specs.Ranges.{descriptor_fields, state_fields}

@@ -1,12 +1,15 @@
 // The part from standard input.
-ghost use Rattle.std.specs.Prelude.{◌≤◌, IfOk, length};
+ghost use Rattle.std.specs.Prelude.{◌<◌, ◌≤◌, IfOk, length, take};
+ghost use Rattle.std.specs.Io.KnownBytes.{Consumes, IsAtEnd};
 
 use std::io;
 use std::io::Read;
 
 // Reads until the buffer is full or the input ends, and answers how many bytes it put at its start.
 pub fn read_part<R: Read>(input: &mut R, part: &mut [u8]) -> io::Result<usize>
-    ensures { IfOk result (λ n. n ≤ length part.new) }
+    ensures within { IfOk result (λ n. n ≤ length part.new) }
+    ensures bytes { IfOk result (λ n. Consumes (R.remaining input.old) (R.remaining input.new) (take n part.new)) }
+    ensures ended { IfOk result (λ n. n < length part.new → IsAtEnd (R.remaining input.new)) }
 {
     let mut done: usize = 0;
     while done < part.len() {

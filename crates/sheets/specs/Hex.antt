@@ -1,6 +1,5 @@
 -- Bytes in capital hexadecimal. Assumes nothing.
-use Rattle.std.specs.Prelude.{ℕ, ◌+◌, ◌-◌, ◌*◌, ◌<◌, ◌≡◌, List, get_or, ltb, leb}
-use Rattle.part.specs.Numbers.{if◌then◌else◌}
+use Rattle.std.specs.Prelude.{ℕ, ◌+◌, ◌-◌, ◌*◌, ◌<◌, ◌≡◌, List, get_or, if◌then◌else◌, ltb, leb}
 
 -- the number of a digit; of any other character 0
 unfoldable pub digit_of : ℕ → ℕ
