@@ -1,6 +1,5 @@
 -- "The C host checks one part alone with the same descriptor and widths, by numbers and byte slices, and gets the code."
-use Rattle.std.specs.Prelude.{ℕ, List, replicate, ltb}
-use Rattle.part.specs.Numbers.{if◌then◌else◌}
+use Rattle.std.specs.Prelude.{ℕ, List, replicate, ltb, if◌then◌else◌}
 use Rattle.part.specs.Part.{interpreted}
 use Rattle.part.specs.Sheets.{lined, begun}
 

@@ -1,6 +1,5 @@
 -- "Increments to try": document 01's rows of one part alone through `checked_at` at 240, as wish 1 asks, and more rows, for what those do not show.
-use Rattle.std.specs.Prelude.{ℕ, zero, suc, ◌≡◌, refl, Bool, ◌&&◌, List, [], ◌∷◌, ◌++◌, map, replicate, length, eqb}
-use Rattle.part.specs.Numbers.{if◌then◌else◌}
+use Rattle.std.specs.Prelude.{ℕ, zero, suc, ◌≡◌, refl, Bool, ◌&&◌, List, [], ◌∷◌, ◌++◌, map, replicate, length, eqb, if◌then◌else◌}
 use Rattle.part.specs.Ranges.{descriptor_fields, state_fields}
 use Rattle.part.specs.Types.{types}
 use Rattle.part.specs.Reading.{sequence, element, cut_from, cut}

@@ -1,5 +1,6 @@
 -- Every request is answered with a code of its own, from any memory, and its two numbers are 0 unless the paper says otherwise.
 -- Assumes nothing.
+use Rattle.std.specs.Prelude.{if◌then◌else◌}
 use Prim.Native.Nat.{ℕ}
 use mathlib.Core.Path.{◌≡◌, refl, sym, ◌∙◌}
 use mathlib.Core.Bool.{Bool, true, false, true≢false, or-true, not, ◌&&◌}
@@ -9,7 +10,6 @@ use native.Mathlib.Omega.{arith}
 use lib.ListN.{length}
 use lib.Dec.{ltb, leb, eqb}
 use borrow.Author.Tests.{ltb-true, leb-true, eqb-true, not-true, eq-eqb, le-leb}
-use Rattle.part.specs.Numbers.{if◌then◌else◌}
 use Rattle.part.specs.Checks.{Checked, fine, fault, require, ◌>>◌}
 use Rattle.part.specs.Ranges.{up_to, ◌to◌, ◌or◌, ◌∈◌, hold, descriptor_fields, state_fields}
 use Rattle.part.specs.Reading.{cut}

@@ -1,12 +1,12 @@
 -- A check that came to a code: a request is refused with it, or done where it is 0.
 -- Assumes nothing.
+use Rattle.std.specs.Prelude.{if◌then◌else◌}
 use Prim.Native.Nat.{ℕ, zero, suc, ◌-◌, ◌≤◌}
 use mathlib.Core.Path.{◌≡◌, refl, sym, ap}
 use mathlib.Core.List.{List, []}
 use lib.ListN.{length}
 use native.Mathlib.Omega.{arith}
 use borrow.Author.Tests.{ltb-true, leb-true}
-use Rattle.part.specs.Numbers.{if◌then◌else◌}
 use Rattle.part.specs.Checks.{Checked, fine}
 use Rattle.part.proofs.Checks.{value_of}
 use Rattle.hub.specs.Entries.{all_written}

@@ -1,6 +1,6 @@
 -- What an entry adds to the count of open jobs.
+use Rattle.std.specs.Prelude.{if◌then◌else◌}
 use Rattle.std.proofs.Common.{ℕ, ◌≤◌, Bool, true, false, arith}
-use Rattle.part.specs.Numbers.{if◌then◌else◌}
 use Rattle.hub.specs.Entries.{is_open}
 use Rattle.hub.specs.declared.jobs.Entry.{Entry}
 

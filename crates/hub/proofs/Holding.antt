@@ -1,5 +1,6 @@
 -- After any requests from a fresh table each slot's job is kept by the rules: each request keeps it so, at its own slot and at the others.
 -- Assumes nothing.
+use Rattle.std.specs.Prelude.{if◌then◌else◌}
 use Prim.Native.Nat.{ℕ, zero, suc, ◌-◌, ◌≤◌}
 use mathlib.Core.Path.{◌≡◌, refl, ◌∙◌, ap}
 use mathlib.Core.Bool.{Bool, true, false, ◌&&◌}
@@ -8,7 +9,6 @@ use native.Mathlib.Omega.{arith}
 use lib.ListN.{get_or, replicate}
 use lib.Dec.{leb, eqb}
 use borrow.Author.Tests.{ltb-true, leb-true, eqb-true, eqb-false}
-use Rattle.part.specs.Numbers.{if◌then◌else◌}
 use Rattle.part.specs.Ranges.{hold, descriptor_fields}
 use Rattle.part.specs.Records.{all_bytes, spliced}
 use Rattle.part.specs.declared.shapes.Descriptor.{Descriptor}

@@ -1,5 +1,6 @@
 -- A request sees of what is lent the lengths, its slot's entry and its slot's area, and the stored number; it puts back an entry and an area there, and a number.
 -- Assumes nothing.
+use Rattle.std.specs.Prelude.{if◌then◌else◌}
 use Prim.Native.Nat.{ℕ, ◌-◌}
 use mathlib.Core.Path.{◌≡◌, refl, sym, ◌∙◌}
 use mathlib.Core.Bool.{Bool, true, false}
@@ -7,7 +8,6 @@ use mathlib.Core.List.{List, [], ◌∷◌}
 use lib.ListN.{length, set, length-set}
 use lib.Seq.{get_or-set_other, set-get_or}
 use lib.Dec.{ltb}
-use Rattle.part.specs.Numbers.{if◌then◌else◌}
 use Rattle.part.specs.declared.shapes.Answer.{Answer}
 use Rattle.part.proofs.Areas.{area-length}
 use Rattle.hub.specs.Entries.{fresh}

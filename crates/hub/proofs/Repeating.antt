@@ -1,5 +1,6 @@
 -- A request that was once accepted is refused ever after: its key is not above the last one, its number is below next, its total isn't above the one taken, or its job is closed.
 -- Assumes nothing.
+use Rattle.std.specs.Prelude.{if◌then◌else◌}
 use Prim.Native.Nat.{ℕ, ◌≤◌, ◌<◌}
 use mathlib.Core.Path.{◌≡◌, refl, sym, ◌∙◌, ap}
 use mathlib.Core.Bool.{Bool, true, false, not, ◌&&◌}
@@ -7,7 +8,6 @@ use mathlib.Core.List.{List, [], ◌∷◌, ◌++◌}
 use native.Mathlib.Omega.{arith}
 use lib.Dec.{ltb, eqb}
 use borrow.Author.Tests.{eqb-true, eqb-false, lt-leb, le-leb, le-ltb}
-use Rattle.part.specs.Numbers.{if◌then◌else◌}
 use Rattle.part.specs.Checks.{Checked, fault, require, ◌>>◌}
 use Rattle.part.specs.Ranges.{◌to◌, ◌∈◌}
 use Rattle.part.specs.declared.shapes.Descriptor.{Descriptor}

@@ -1,6 +1,7 @@
 -- The stored number of open jobs is the walked count: a request changes both alike, or neither. Where it is, 32 can't come: an open that would be done
 -- finds a closed entry among sixteen, and a close an open one.
 -- Assumes nothing.
+use Rattle.std.specs.Prelude.{if◌then◌else◌}
 use Prim.Native.Nat.{ℕ, zero, suc, ◌+◌, ◌≤◌, ◌<◌}
 use mathlib.Core.Path.{◌≡◌, refl, sym, ◌∙◌}
 use mathlib.Core.Bool.{Bool, true, false, true≢false}
@@ -9,7 +10,6 @@ use native.Mathlib.Omega.{arith}
 use lib.ListN.{length, get_or, set, length-set}
 use lib.Dec.{ltb, eqb}
 use borrow.Author.Tests.{ltb-true, le-leb, eq-eqb, eqb-false}
-use Rattle.part.specs.Numbers.{if◌then◌else◌}
 use Rattle.part.specs.Checks.{Checked}
 use Rattle.part.specs.Ranges.{◌∈◌}
 use Rattle.part.specs.Part.{answer}

@@ -1,6 +1,5 @@
 -- The hub as a tenant sees it: a slot's account, which is what the answers have told of it and what its printer has read, and the answer that it tells to the next request.
-use Rattle.std.specs.Prelude.{ℕ, ◌+◌, ◌-◌, Bool, true, false, not, ◌&&◌, List, [], ◌∷◌, ◌++◌, map, length, take, ltb, leb, eqb}
-use Rattle.part.specs.Numbers.{if◌then◌else◌}
+use Rattle.std.specs.Prelude.{ℕ, ◌+◌, ◌-◌, Bool, true, false, not, ◌&&◌, List, [], ◌∷◌, ◌++◌, map, length, take, ltb, leb, eqb, if◌then◌else◌}
 use Rattle.part.specs.Checks.{Checked, fine, fault, refuse, require, ◌>>=◌, ◌>>◌}
 use Rattle.part.specs.States.{with_used}
 use Rattle.part.specs.Ranges.{◌to◌, ◌∈◌, hold, descriptor_fields}

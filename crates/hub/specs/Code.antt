@@ -1,6 +1,5 @@
 -- What the code's own functions say where they work otherwise than the rules are told: a check as one number, and a count's step.
-use Rattle.std.specs.Prelude.{ℕ, zero, suc, ◌+◌, ltb}
-use Rattle.part.specs.Numbers.{if◌then◌else◌}
+use Rattle.std.specs.Prelude.{ℕ, zero, suc, ◌+◌, ltb, if◌then◌else◌}
 use Rattle.part.specs.Checks.{Checked, fine, refuse}
 use Rattle.hub.specs.Entries.{is_open}
 use Rattle.hub.specs.declared.jobs.Entry.{Entry}

@@ -1,6 +1,5 @@
 -- For the promises: a history of requests, and what it makes of one slot's account.
-use Rattle.std.specs.Prelude.{ℕ, ◌&&◌, List, [], ◌∷◌, get_or, take, eqb}
-use Rattle.part.specs.Numbers.{if◌then◌else◌}
+use Rattle.std.specs.Prelude.{ℕ, ◌&&◌, List, [], ◌∷◌, get_or, take, eqb, if◌then◌else◌}
 use Rattle.hub.specs.Entries.{fresh}
 use Rattle.hub.specs.Requests.{area_of, Hub, Request, slot_of, step}
 use Rattle.hub.specs.Accounts.{Account, noted}

@@ -1,7 +1,6 @@
 -- "What the promises have to say": the promises over the rules of `Requests`, each as one type.
 -- Their proofs: Answering, Leaving, Storing, Swapping, Telling, Holding, Printing, Repeating.
-use Rattle.std.specs.Prelude.{ℕ, zero, suc, ◌+◌, ◌*◌, ◌≤◌, ◌<◌, ◌≡◌, Bool, true, false, ◌&&◌, List, [], ◌∷◌, ◌++◌, map, length, take, drop, get_or, ltb, eqb}
-use Rattle.part.specs.Numbers.{if◌then◌else◌}
+use Rattle.std.specs.Prelude.{ℕ, zero, suc, ◌+◌, ◌*◌, ◌≤◌, ◌<◌, ◌≡◌, Bool, true, false, ◌&&◌, List, [], ◌∷◌, ◌++◌, map, length, take, drop, get_or, ltb, eqb, if◌then◌else◌}
 use Rattle.part.specs.Checks.{fine}
 use Rattle.part.specs.States.{with_used}
 use Rattle.part.specs.Ranges.{Range, up_to, only, ◌to◌, ◌or◌, ◌∈◌}

@@ -1,6 +1,5 @@
 -- "Requests and their order": open, submit, take and close on one entry, each as one step on all that is lent; and the count of open jobs.
-use Rattle.std.specs.Prelude.{ℕ, ◌+◌, ◌-◌, ◌*◌, Bool, true, false, not, ◌&&◌, ◌||◌, List, [], ◌∷◌, length, get_or, set, take, ltb, leb, eqb}
-use Rattle.part.specs.Numbers.{if◌then◌else◌}
+use Rattle.std.specs.Prelude.{ℕ, ◌+◌, ◌-◌, ◌*◌, Bool, true, false, not, ◌&&◌, ◌||◌, List, [], ◌∷◌, length, get_or, set, take, ltb, leb, eqb, if◌then◌else◌}
 use Rattle.part.specs.Checks.{Checked, fine, fault, require, ◌>>◌}
 use Rattle.part.specs.Ranges.{up_to, ◌to◌, ◌∈◌, hold, descriptor_fields}
 use Rattle.part.specs.Reading.{between}

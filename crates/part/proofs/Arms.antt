@@ -1,5 +1,6 @@
 -- What each type's sequence comes to: the values' test, and then what the numbers of the working state become.
 -- Assumes nothing.
+use Rattle.std.specs.Prelude.{if◌then◌else◌}
 use Prim.Native.Nat.{ℕ, zero, suc, ◌+◌, ◌≤◌}
 use mathlib.Core.Path.{◌≡◌, refl, sym}
 use mathlib.Core.Bool.{Bool, true, false}
@@ -10,7 +11,7 @@ use native.Mathlib.Omega.{arith}
 use lib.ListN.{length, get_or, set}
 use lib.Dec.{ltb, leb, eqb}
 use borrow.Author.Tests.{leb-true, le-leb, eqb-true}
-use Rattle.part.specs.Numbers.{if◌then◌else◌, origin, ones, byte, word, signed}
+use Rattle.part.specs.Numbers.{origin, ones, byte, word, signed}
 use Rattle.part.specs.Checks.{Checked, fine, fault, require, require_at, starting_at, ◌>>=◌, ◌>>◌}
 use Rattle.part.specs.Ranges.{up_to, only, colours, ◌to◌, ◌or◌, ◌∈◌}
 use Rattle.part.specs.Elements.{Element, rule_width, drawn_rule}

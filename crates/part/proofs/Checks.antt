@@ -1,10 +1,10 @@
 -- Checks that passed; and what holds of a check's value, or of its fault's code and place, step by step.
 -- Assumes nothing.
+use Rattle.std.specs.Prelude.{if◌then◌else◌}
 use Prim.Native.Nat.{ℕ, ◌+◌}
 use mathlib.Core.Path.{◌≡◌, refl}
 use mathlib.Core.Bool.{Bool, true, false, ◌&&◌}
 use native.Mathlib.Omega.{arith}
-use Rattle.part.specs.Numbers.{if◌then◌else◌}
 use Rattle.part.specs.Checks.{Checked, fine, fault, require, require_at, starting_at, ◌>>=◌, ◌>>◌}
 
 pub first_of : (a b : Bool) → (a && b) ≡ true → a ≡ true

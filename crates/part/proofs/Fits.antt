@@ -1,5 +1,6 @@
 -- What is read is in range: an element's parameters as the table's last column has them; and a fault points where its code does.
 -- Assumes nothing.
+use Rattle.std.specs.Prelude.{if◌then◌else◌}
 use Prim.Native.Nat.{ℕ, ◌+◌, ◌-◌, ◌<◌, ◌≤◌}
 use mathlib.Core.Path.{◌≡◌, refl, sym, ◌∙◌}
 use mathlib.Core.Bool.{Bool, true, false, true≢false, ◌&&◌, ◌||◌}
@@ -10,7 +11,7 @@ use lib.ListN.{length, drop, length-drop, get_or-eq_default}
 use lib.Seq.{length-take-le}
 use lib.Dec.{leb, ltb, eqb}
 use borrow.Author.Tests.{ltb-true, ltb-false, leb-true, le-leb}
-use Rattle.part.specs.Numbers.{if◌then◌else◌, ones, byte, word}
+use Rattle.part.specs.Numbers.{ones, byte, word}
 use Rattle.part.specs.Checks.{Checked, fine, starting_at}
 use Rattle.part.specs.Ranges.{Range, up_to, only, colours, ◌to◌, ◌or◌, ◌∈◌}
 use Rattle.part.specs.Elements.{Element, Text, RepeatString, AbsoluteMoveInline, AbsoluteMoveBaseline, RelativeMoveInline, RelativeMoveBaseline, BeginLine, SetInlineMargin, SetBaselineIncrement, SetIntercharacterAdjustment, SetVariableSpace, SetCodedFont, SetTextColor, SetTextOrientation, BeginSuppression, EndSuppression, DrawRule, NoOperation, number, adjustment, font, orientation, suppression, drawn_rule, repeated_string, rule_width}

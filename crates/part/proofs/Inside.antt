@@ -1,5 +1,6 @@
 -- What an element shows lies on the sheet: its characters passed 27 one by one, and so did a rule's two corners. And none of it is empty.
 -- Assumes nothing.
+use Rattle.std.specs.Prelude.{if◌then◌else◌}
 use Prim.Native.Nat.{ℕ, ◌+◌, ◌-◌, ◌<◌, ◌≤◌}
 use mathlib.Core.Path.{◌≡◌, refl}
 use mathlib.Core.Bool.{Bool, true, false, not, ◌&&◌, ◌||◌}
@@ -8,7 +9,7 @@ use native.Mathlib.Omega.{arith}
 use lib.ListN.{length}
 use lib.Dec.{leb, eqb}
 use borrow.Author.Tests.{leb-true}
-use Rattle.part.specs.Numbers.{if◌then◌else◌, origin, last, ones, signed}
+use Rattle.part.specs.Numbers.{origin, last, ones, signed}
 use Rattle.part.specs.Checks.{Checked, fine}
 use Rattle.part.specs.States.{point}
 use Rattle.part.specs.Ranges.{hold, descriptor_fields}

@@ -1,5 +1,6 @@
 -- Characters along a line: `a ++ b` is a, and then b from where a left off. Where I does not fall, the last character's end decides for all.
 -- Assumes nothing.
+use Rattle.std.specs.Prelude.{if◌then◌else◌}
 use Prim.Native.Nat.{ℕ, zero, suc, ◌+◌, ◌*◌, ◌-◌, ◌/◌, ◌%◌, ◌<◌, ◌≤◌}
 use mathlib.Core.Path.{◌≡◌, refl, sym, ◌∙◌, ap, subst}
 use mathlib.Core.Bool.{Bool, true, false, not, ◌&&◌, ◌||◌, or-true, and-false}
@@ -12,7 +13,7 @@ use borrow.Author.Tests.{le-leb, lt-leb, eqb-true, eqb-false}
 use lib.ListN.{length, take, get_or, drop, drop_of_length-le}
 use lib.Seq.{drop-cons, length-take-le}
 use lib.Dec.{leb, eqb}
-use Rattle.part.specs.Numbers.{if◌then◌else◌, origin, last}
+use Rattle.part.specs.Numbers.{origin, last}
 use Rattle.part.specs.Checks.{Checked, fine, fault, ◌>>=◌}
 use Rattle.part.specs.Presenting.{moved}
 use Rattle.part.specs.Text.{cycle}

@@ -1,5 +1,6 @@
 -- Placing an element: the bytes used stay, all numbers stay in range, and a fault is from 26 to 29 and keeps the element's start.
 -- Assumes nothing.
+use Rattle.std.specs.Prelude.{if◌then◌else◌}
 use Prim.Native.Nat.{ℕ, ◌+◌, ◌-◌, ◌≤◌}
 use mathlib.Core.Path.{◌≡◌, refl}
 use mathlib.Core.Bool.{Bool, true, false, ◌&&◌, ◌||◌}
@@ -8,7 +9,7 @@ use native.Mathlib.Omega.{arith}
 use lib.ListN.{set}
 use lib.Dec.{leb, eqb}
 use borrow.Author.Tests.{leb-true, le-leb}
-use Rattle.part.specs.Numbers.{if◌then◌else◌, origin, last, ones, signed}
+use Rattle.part.specs.Numbers.{origin, last, ones, signed}
 use Rattle.part.specs.Checks.{fine}
 use Rattle.part.specs.States.{point}
 use Rattle.part.specs.Ranges.{Range, Field, up_to, only, colours, ◌to◌, ◌or◌, ◌∈◌, ◌within◌, hold, descriptor_fields, state_fields}

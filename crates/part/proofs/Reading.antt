@@ -1,5 +1,6 @@
 -- Reading looks no further than the element: what follows it doesn't matter.
 -- Assumes nothing.
+use Rattle.std.specs.Prelude.{if◌then◌else◌}
 use Prim.Native.Nat.{ℕ, suc, ◌+◌, ◌-◌, ◌<◌, ◌≤◌}
 use mathlib.Core.Path.{◌≡◌, refl, ap}
 use mathlib.Core.Bool.{Bool, true, false, not, ◌&&◌}
@@ -10,7 +11,6 @@ use lib.ListN.{length, get_or, drop, length-append, length-drop, get_or-append}
 use lib.Seq.{take-append-le, drop-append-le}
 use lib.Dec.{leb, eqb}
 use borrow.Author.Tests.{leb-true, le-leb, eqb-false}
-use Rattle.part.specs.Numbers.{if◌then◌else◌}
 use Rattle.part.specs.Checks.{Checked, fine, fault, require, require_at, starting_at, ◌>>=◌, ◌>>◌}
 use Rattle.part.specs.Elements.{Element}
 use Rattle.part.specs.Types.{function, chaining, Row, types, row_of, values_of, ◌takes◌}

@@ -1,5 +1,6 @@
 -- A stretch, one byte after the other: it stops at a 2B and at the end, and goes on past any other byte.
 -- Assumes nothing.
+use Rattle.std.specs.Prelude.{if◌then◌else◌}
 use Prim.Native.Nat.{ℕ, zero, suc, ◌+◌, ◌<◌, ◌≤◌}
 use mathlib.Core.Path.{◌≡◌, sym, ◌∙◌}
 use mathlib.Core.Bool.{Bool, true, false}
@@ -11,7 +12,6 @@ use lib.ListN.{length, get_or, take, drop, length-drop, take-append-drop, drop_o
 use lib.Seq.{drop-cons, drop-drop, length-take-le}
 use lib.Dec.{eqb}
 use borrow.Author.Tests.{eq-eqb, ne_eqb}
-use Rattle.part.specs.Numbers.{if◌then◌else◌}
 use Rattle.part.specs.Reading.{stretch}
 use Rattle.part.proofs.Reading.{stretch_through}
 

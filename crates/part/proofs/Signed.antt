@@ -1,5 +1,6 @@
 -- A position is kept as its number plus `origin`: what the moves do to the kept numbers is what addition does to the signed ones.
 -- Assumes nothing.
+use Rattle.std.specs.Prelude.{if◌then◌else◌}
 use Prim.Native.Nat.{ℕ, ◌+◌, ◌-◌, ◌<◌}
 use mathlib.Core.Path.{◌≡◌, refl, sym, ◌∙◌, ap}
 use mathlib.Core.Bool.{Bool, true, false, ◌&&◌, ◌||◌}
@@ -8,7 +9,7 @@ use native.Mathlib.Omega.{arith}
 use lib.Dec.{ltb, leb, eqb}
 use lib.IntN.{ℤ, pos, neg_ℤ, ◌+ℤ◌, ◌-ℤ◌, +ℤ_assoc, +ℤ_comm, +ℤ_idr, +ℤ-neg_ℤ_cancel}
 use borrow.Author.Tests.{leb-true, ltb-true, ltb-false}
-use Rattle.part.specs.Numbers.{if◌then◌else◌, origin, last, signed}
+use Rattle.part.specs.Numbers.{origin, last, signed}
 use Rattle.part.specs.Checks.{fine}
 use Rattle.part.specs.States.{point}
 use Rattle.part.specs.Presenting.{moved, on_sheet, hides}

@@ -1,9 +1,9 @@
 -- How the code's numbers stand for the rule book's values: what the contracts inside this crate cite, and no rule.
-use Rattle.std.specs.Prelude.{ℕ, zero, suc, ◌+◌, ◌-◌, ◌/◌, ◌%◌, ◌<◌, ◌≤◌, ◌≡◌, Bool, true, not, ◌&&◌, ◌||◌, List, [], ◌∷◌, ◌++◌, length, take, drop, get_or, ltb, leb, eqb}
+use Rattle.std.specs.Prelude.{ℕ, zero, suc, ◌+◌, ◌-◌, ◌/◌, ◌%◌, ◌<◌, ◌≤◌, ◌≡◌, Bool, true, not, ◌&&◌, ◌||◌, List, [], ◌∷◌, ◌++◌, length, take, drop, get_or, ltb, leb, eqb, if◌then◌else◌}
 use Rattle.std.specs.Borrow.{MutBor}
 use denote.Triple.Both.{Both}
 use Rattle.std.proofs.lemmas.List.Edits.{sets}
-use Rattle.part.specs.Numbers.{if◌then◌else◌, origin, last, ones, byte, word, little}
+use Rattle.part.specs.Numbers.{origin, last, ones, byte, word, little}
 use Rattle.part.specs.Checks.{Checked, fine, fault, refuse, require, require_at, starting_at, ◌>>=◌, ◌>>◌}
 use Rattle.part.specs.States.{point, state, with_inline, with_used}
 use Rattle.part.specs.Ranges.{up_to, ◌∈◌, hold, descriptor_fields, state_fields}

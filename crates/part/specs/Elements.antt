@@ -1,6 +1,6 @@
 -- The elements of a part, with their parameters as they stand in it, and each parameter's range: the table's last column.
-use Rattle.std.specs.Prelude.{ℕ, Bool, ◌&&◌, ◌||◌, List, length, drop, ltb}
-use Rattle.part.specs.Numbers.{if◌then◌else◌, ones, byte, word}
+use Rattle.std.specs.Prelude.{ℕ, Bool, ◌&&◌, ◌||◌, List, length, drop, ltb, if◌then◌else◌}
+use Rattle.part.specs.Numbers.{ones, byte, word}
 use Rattle.part.specs.Checks.{Checked, fine, require_at, ◌>>◌}
 use Rattle.part.specs.Ranges.{Range, up_to, only, ◌to◌, ◌or◌, ◌∈◌}
 

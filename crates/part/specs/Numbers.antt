@@ -1,10 +1,5 @@
 -- Numbers. Big-endian in sequences, little-endian in records; a position is kept as its number plus `origin`.
-use Rattle.std.specs.Prelude.{ℕ, ◌+◌, ◌*◌, ◌/◌, ◌%◌, Bool, true, false, List, [], ◌∷◌, get_or}
-
-infix 10 if◌then◌else◌
-abbrev pub if◌then◌else◌ : {A : Type 0} → Bool → A → A → A
-if true then a else b = a
-if false then a else b = b
+use Rattle.std.specs.Prelude.{ℕ, ◌+◌, ◌*◌, ◌/◌, ◌%◌, List, [], ◌∷◌, get_or}
 
 -- 0 stands for -32,768, and `last` for 32,767
 abbrev pub origin : ℕ

@@ -1,6 +1,6 @@
 -- What an element does: the state after it and the items that it shows, or its fault.
-use Rattle.std.specs.Prelude.{ℕ, Bool, not, ◌||◌, List, [], ◌∷◌, eqb}
-use Rattle.part.specs.Numbers.{if◌then◌else◌, origin, ones, signed}
+use Rattle.std.specs.Prelude.{ℕ, Bool, not, ◌||◌, List, [], ◌∷◌, eqb, if◌then◌else◌}
+use Rattle.part.specs.Numbers.{origin, ones, signed}
 use Rattle.part.specs.Checks.{Checked, fine, require, ◌>>=◌, ◌>>◌}
 use Rattle.part.specs.States.{point, with_at, with_inline, with_baseline, with_margin, with_increment, with_adjustment, with_font, with_colour, with_space, with_suppression}
 use Rattle.part.specs.Elements.{Element, Text, RepeatString, AbsoluteMoveInline, AbsoluteMoveBaseline, RelativeMoveInline, RelativeMoveBaseline, BeginLine, SetInlineMargin, SetBaselineIncrement, SetIntercharacterAdjustment, SetVariableSpace, SetCodedFont, SetTextColor, SetTextOrientation, BeginSuppression, EndSuppression, DrawRule, NoOperation}

@@ -1,6 +1,6 @@
 -- "Point at the byte": where a refusal from 20 to 29 points, and that the byte is there.
-use Rattle.std.specs.Prelude.{ℕ, ◌+◌, ◌<◌, ◌≤◌, ◌≡◌, true, List, length, drop, eqb}
-use Rattle.part.specs.Numbers.{if◌then◌else◌, byte}
+use Rattle.std.specs.Prelude.{ℕ, ◌+◌, ◌<◌, ◌≤◌, ◌≡◌, true, List, length, drop, eqb, if◌then◌else◌}
+use Rattle.part.specs.Numbers.{byte}
 use Rattle.part.specs.Checks.{fine}
 use Rattle.part.specs.Ranges.{◌to◌, ◌∈◌}
 use Rattle.part.specs.Reading.{Found, element}

@@ -1,6 +1,6 @@
 -- "Presenting": what lies on the sheet, what is hidden, and the range of positions.
-use Rattle.std.specs.Prelude.{ℕ, ◌+◌, ◌-◌, Bool, not, ◌&&◌, leb, eqb}
-use Rattle.part.specs.Numbers.{if◌then◌else◌, origin, last}
+use Rattle.std.specs.Prelude.{ℕ, ◌+◌, ◌-◌, Bool, not, ◌&&◌, leb, eqb, if◌then◌else◌}
+use Rattle.part.specs.Numbers.{origin, last}
 use Rattle.part.specs.Checks.{Checked, fine, require, ◌>>◌}
 use Rattle.part.specs.declared.shapes.Point.{Point}
 use Rattle.part.specs.declared.shapes.Descriptor.{Descriptor}

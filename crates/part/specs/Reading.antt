@@ -1,7 +1,7 @@
 -- "Elements of a part": what stands at the start of the bytes that are left, and a part cut into its elements.
 -- All numbers count from the element's first byte. The chain is 1 while one is open, else 0.
-use Rattle.std.specs.Prelude.{ℕ, zero, suc, ◌+◌, ◌-◌, List, [], ◌∷◌, length, take, drop, leb, eqb}
-use Rattle.part.specs.Numbers.{if◌then◌else◌, byte}
+use Rattle.std.specs.Prelude.{ℕ, zero, suc, ◌+◌, ◌-◌, List, [], ◌∷◌, length, take, drop, leb, eqb, if◌then◌else◌}
+use Rattle.part.specs.Numbers.{byte}
 use Rattle.part.specs.Checks.{Checked, fine, fault, require, require_at, starting_at, ◌>>=◌, ◌>>◌}
 use Rattle.part.specs.Elements.{Element, Text}
 use Rattle.part.specs.Types.{function, chaining, types, row_of, ◌takes◌}

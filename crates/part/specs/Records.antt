@@ -1,6 +1,6 @@
 -- "Record area": what an element leaves to be shown, and the bytes of its record.
-use Rattle.std.specs.Prelude.{ℕ, zero, suc, ◌+◌, ◌-◌, ◌*◌, Bool, true, false, not, ◌&&◌, ◌||◌, List, [], ◌∷◌, ◌++◌, length, get_or, take, drop, leb, eqb}
-use Rattle.part.specs.Numbers.{if◌then◌else◌, origin, little}
+use Rattle.std.specs.Prelude.{ℕ, zero, suc, ◌+◌, ◌-◌, ◌*◌, Bool, true, false, not, ◌&&◌, ◌||◌, List, [], ◌∷◌, ◌++◌, length, get_or, take, drop, leb, eqb, if◌then◌else◌}
+use Rattle.part.specs.Numbers.{origin, little}
 use Rattle.part.specs.Checks.{Checked, fine, require, ◌>>◌}
 use Rattle.part.specs.declared.shapes.Point.{Point}
 

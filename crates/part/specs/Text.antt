@@ -1,6 +1,6 @@
 -- "Text": each character's width, its advance, and the characters that RPS presents.
-use Rattle.std.specs.Prelude.{ℕ, zero, suc, ◌+◌, ◌*◌, ◌%◌, ◌||◌, List, [], ◌∷◌, length, get_or, eqb}
-use Rattle.part.specs.Numbers.{if◌then◌else◌, ones}
+use Rattle.std.specs.Prelude.{ℕ, zero, suc, ◌+◌, ◌*◌, ◌%◌, ◌||◌, List, [], ◌∷◌, length, get_or, eqb, if◌then◌else◌}
+use Rattle.part.specs.Numbers.{ones}
 use Rattle.part.specs.Checks.{Checked, fine, require, ◌>>=◌, ◌>>◌}
 use Rattle.part.specs.Presenting.{default, moved, on_sheet, hides}
 use Rattle.part.specs.States.{point}

@@ -1,6 +1,6 @@
 -- The table of the nineteen types, a row each: TYPE without its low bit, the LENGTHs that it takes, its parameters.
-use Rattle.std.specs.Prelude.{ℕ, ◌*◌, ◌/◌, ◌%◌, Bool, not, ◌&&◌, List, [], ◌∷◌, eqb}
-use Rattle.part.specs.Numbers.{if◌then◌else◌, ones}
+use Rattle.std.specs.Prelude.{ℕ, ◌*◌, ◌/◌, ◌%◌, Bool, not, ◌&&◌, List, [], ◌∷◌, eqb, if◌then◌else◌}
+use Rattle.part.specs.Numbers.{ones}
 use Rattle.part.specs.Checks.{Checked, fine, refuse, ◌>>=◌}
 use Rattle.part.specs.Ranges.{up_to, only, colours, everything, ◌to◌, ◌or◌, ◌∈◌}
 use Rattle.part.specs.Elements.{Element, AbsoluteMoveInline, AbsoluteMoveBaseline, RelativeMoveInline, RelativeMoveBaseline, BeginLine, SetInlineMargin, SetBaselineIncrement, SetVariableSpace, SetTextColor, BeginSuppression, EndSuppression, NoOperation, number, adjustment, font, orientation, suppression, drawn_rule, transparent, repeated_string, ignored}

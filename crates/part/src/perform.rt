@@ -1,6 +1,5 @@
 // A control sequence performed: its LENGTH and its values tested, and its effect on the working state and the records.
-ghost use Rattle.std.specs.Prelude.{◌≡◌, ◌≤◌, ◌<◌, eqb, length};
-ghost use Rattle.part.specs.Numbers.{if◌then◌else◌};
+ghost use Rattle.std.specs.Prelude.{◌≡◌, ◌≤◌, ◌<◌, eqb, length, if◌then◌else◌};
 ghost use Rattle.part.specs.Ranges.{up_to, colours};
 ghost use Rattle.part.specs.Working.{absolute, relative, setting, font_setting, adjusting, beginning, ending};
 ghost use Rattle.part.specs.Code.{verdict, sized, Does, ruled, repeating, performed, Ready, descriptor_of};

@@ -1,6 +1,6 @@
 // Text as it is shown: along its line, and then its record.
-ghost use Rattle.std.specs.Prelude.{◌≡◌, true, not, ◌+◌, ◌-◌, ◌≤◌, ◌<◌, eqb, length, get_or};
-ghost use Rattle.part.specs.Numbers.{if◌then◌else◌, origin, ones};
+ghost use Rattle.std.specs.Prelude.{◌≡◌, true, not, ◌+◌, ◌-◌, ◌≤◌, ◌<◌, eqb, length, get_or, if◌then◌else◌};
+ghost use Rattle.part.specs.Numbers.{origin, ones};
 ghost use Rattle.part.specs.Presenting.{default, hides};
 ghost use Rattle.part.specs.Text.{cycle, characters};
 ghost use Rattle.part.specs.Place.{place_text};

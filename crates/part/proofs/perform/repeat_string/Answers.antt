@@ -1,9 +1,10 @@
 -- `part::perform::repeat_string` meets its contract: the row's LENGTH, no characters for a count of 0, else text of as many.
+use Rattle.std.specs.Prelude.{if◌then◌else◌}
 use Rattle.part.proofs.Bytes.{tail_of}
 use Rattle.part.proofs.Cycles.{length-cycle}
 use Rattle.part.proofs.Shown.{text_none}
 use Rattle.part.specs.Code.{state_of, descriptor_of}
-use Rattle.part.specs.Numbers.{if◌then◌else◌, word}
+use Rattle.part.specs.Numbers.{word}
 use Rattle.part.specs.Text.{cycle}
 use borrow.Author.Tests.{le-leb, lt-ltb}
 use lib.Dec.{ltb}
