@@ -6,12 +6,12 @@ import re
 ROOT = os.path.dirname(os.path.dirname(os.path.dirname(os.path.abspath(__file__))))
 # where each crate's rows are, and the theorems that hold them to the definitions
 ROWS = {'part': 'part/specs/Sheets', 'hub': 'hub/specs/Trials', 'host': 'host/specs/Increments'}
-THEOREMS = {'sheets-hold', 'further-hold', 'read-back-hold', 'lyings-hold', 'trials-hold', 'sheets-check', 'increments-hold'}
+THEOREMS = {'sheets-hold', 'further-hold', 'read_back_hold', 'lyings-hold', 'trials-hold', 'sheets_check', 'increments-hold'}
 # the paper's own rows take longest to compute, and few changes need them
 SLOW = re.compile(r'^pub sheets-hold :.*?\n\n', re.M | re.S)
-USE = re.compile(r'Rattle·(\w+)(?:·specs)?\.specs\.(?:declared\.(\w+)|(\w+))')
+USE = re.compile(r'Rattle\.(part|hub|host)\.specs\.(?:declared\.(\w+)|(\w+))')
 STRUCT = re.compile(r'^pub struct \w+ \{\n.*?^\}\n', re.M | re.S)
-SHARED = re.compile(r'^use (\w+)::(\w+)::(\w+);\n', re.M)
+SHARED = re.compile(r'^use \w+::(\w+)::(.+);\n', re.M)
 
 
 def content(path):
@@ -53,15 +53,15 @@ def copied(change):
 def structs(path):
     """A source file with its structs alone."""
     text = content(f'{path}.rt')
-    return SHARED.sub(r'use super::\2::\3;\n', ''.join(match.group() for match in SHARED.finditer(text))) + '\n'.join(STRUCT.findall(text))
+    return SHARED.sub(r'use super::\1::\2;\n', ''.join(match.group() for match in SHARED.finditer(text))) + '\n'.join(STRUCT.findall(text))
 
 
 def led(text, copy, own):
     """A spec file's text, with its uses led to the copy of what is copied, and else to the files that all copies share."""
     def place(use):
         if use[2]:
-            return f'Rattle·book·specs.specs.declared.{use[2]}'
-        return f'Rattle·book·specs.specs.{copy if f"{use[1]}/specs/{use[3]}" in own else "Shared"}.{use[3]}'
+            return f'Rattle.book.specs.declared.{use[2]}'
+        return f'Rattle.book.specs.{copy if f"{use[1]}/specs/{use[3]}" in own else "Shared"}.{use[3]}'
     return USE.sub(place, text)
 
 

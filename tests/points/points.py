@@ -12,7 +12,7 @@ import subprocess
 import sys
 import tempfile
 
-from book import THEOREMS, make
+from book import THEOREMS, make, write
 from changes import CHANGES
 
 ERROR = re.compile(r'/specs/C(\d+)/(\w+)\.antt:\d+:\d+: error: (?:`([^`]+)`: )?(.*)')
@@ -34,8 +34,9 @@ def all_changes():
 def check(changes, quick=False):
     """One check with a copy for each change: whether all is proved, the errors of each copy as (file, definition, words), and the log."""
     with tempfile.TemporaryDirectory() as folder:
-        make(f'{folder}/book', changes, quick)
-        done = subprocess.run([os.environ.get('RT', 'rt'), 'check', f'{folder}/book'], capture_output=True, text=True, cwd=folder, env={**os.environ, 'RT_CUT': '0'})
+        write(f'{folder}/crates.txt', 'book:\n')
+        make(f'{folder}/crates/book', changes, quick)
+        done = subprocess.run([os.environ.get('RT', 'rt'), 'check'], capture_output=True, text=True, cwd=f'{folder}/crates/book')
     log = done.stdout + done.stderr
     errors = [[] for _ in changes]
     for copy, *error in ERROR.findall(log):
