@@ -2,7 +2,7 @@
 import re
 from typing import NamedTuple
 
-from rattle import content
+from rattle import content, crates
 
 TABLES = ('<!-- written by tools/lines -->', '<!-- up to here -->')
 LISTED = re.compile(r'^\| `(\S+/specs/\S+\.antt)` \|', re.MULTILINE)
@@ -64,7 +64,7 @@ def used(text):
     found = []
     for match in USED.finditer(text):
         line = text.count('\n', 0, match.start()) + 1
-        if not match.group(1).startswith('Rattle·'):
+        if not any(match.group(1).startswith(f'Rattle.{crate}.') for crate in crates()):
             found += [Name(word.split(' as ')[-1].split('.')[-1].strip(), 'name of the kit', line) for word in match.group(2).split(',')]
     return found
 

@@ -4,9 +4,9 @@ import unittest
 from meanings import clashes, given, trusted, used
 
 TEXT = '''-- a file: of two words
-use lib.ListN.{length, take as front}
-use Rattle·part·specs.specs.Numbers.{byte}
-infix 40 _takes_
+use Rattle.std.specs.Prelude.{length, take as front}
+use Rattle.part.specs.Numbers.{byte}
+infix 40 ◌takes◌
 
 pub data Kind (A : Type 0) : Type 0 where
   -- plain : not this
@@ -18,7 +18,7 @@ pub record Row (n : ℕ) : Type 0 where
   pub third : (k : ℕ) →
       k < n
 
-abbrev pub _takes_ : {A : Type 0} → Row 1 → Bool
+abbrev pub ◌takes◌ : {A : Type 0} → Row 1 → Bool
 r takes n = let local : ℕ = n in local  -- inner : ℕ
 
 module _ (n : ℕ) where
@@ -42,7 +42,7 @@ class Read(unittest.TestCase):
         self.assertEqual([tuple(name) for name in given(TEXT)], [
             ('Kind', 'data', 6), ('plain', 'constructor', 8), ('both', 'constructor', 9),
             ('Row', 'record', 11), ('first', 'field', 12), ('second', 'field', 12), ('third', 'field', 13),
-            ('_takes_', 'definition', 16), ('within', 'definition', 20), ('private', 'definition', 26), ('row-holds', 'definition', 29)])
+            ('◌takes◌', 'definition', 16), ('within', 'definition', 20), ('private', 'definition', 26), ('row-holds', 'definition', 29)])
 
     def test_the_kit_s_names_are_read_as_the_file_calls_them(self):
         self.assertEqual([(name.name, name.line) for name in used(TEXT)], [('length', 2), ('front', 2)])
@@ -72,8 +72,8 @@ class Clash(unittest.TestCase):
         self.assertEqual(clashes({'a': 'pub record A : Type 0 where\n  pub length : ℕ'}), ["length: field a:2, the kit's length"])
 
     def test_a_definition_like_a_name_of_the_kit_that_another_file_uses(self):
-        self.assertEqual(self.names('use lib.Seq.{sets}', 'use Rattle·a.{g}\npub sets : ℕ\npub g : ℕ'), ['sets'])
-        self.assertEqual(self.names('use lib.Seq.{sets as put}', 'pub sets : ℕ'), [])
+        self.assertEqual(self.names('use Rattle.std.proofs.lemmas.List.Edits.{sets}', 'use Rattle.part.specs.A.{g}\npub sets : ℕ\npub g : ℕ'), ['sets'])
+        self.assertEqual(self.names('use Rattle.std.proofs.lemmas.List.Edits.{sets as put}', 'pub sets : ℕ'), [])
 
 
 class Trusted(unittest.TestCase):
