@@ -16,26 +16,26 @@ test:
 	bash .ci/run
 
 check:
-	rt check
+	rt all check
 
 # the sources of some crates, and their folders, which are newer where a file is gone
-code = $(shell find $(addprefix crates/,$(1)) -type d -o -name '*.rt' -o -name '*.antt') crates.txt
+code = $(shell find $(addprefix crates/,$(1)) -mindepth 1 -name out -prune -o \( -type d -o -name '*.rt' -o -name '*.antt' \) -print) crates.txt
 
 # document 01's "Sheets to try", each row through the interpreter
 sheets: target/bin/sheets
 	@. tools/x86_64.sh && $$LOAD target/bin/sheets
 target/bin/sheets: $(call code,part sheets)
-	@tools/prove check sheets
+	@tools/prove run sheets
 
 # build/libhalviruso.a: the proved library for C, C++ and Rust hosts
 lib: build/libhalviruso.a
-build/libhalviruso.a: $(call code,part hub host) tools/archive tools/prove tools/x86_64.sh
+build/libhalviruso.a: $(call code,part hub host halviruso) tools/archive tools/prove
 	@tools/archive
 
 # target/bin/listing, at an increment of 180, and target/bin/listing240: the listing programs
 listing: target/bin/listing target/bin/listing240
 target/bin/listing target/bin/listing240 &: $(call code,part lister listing listing240)
-	@tools/prove check listing listing240
+	@tools/prove run listing listing240
 
 # eight lines to the inch
 INCREMENT = 180
@@ -123,4 +123,4 @@ help:
 	@echo 'make elements PART=file the elements of a part; INCREMENT=n for another increment than 180, WIDTHS=file for other widths than 144'
 
 clean:
-	rm -rf target build
+	rm -rf target build crates/*/out
