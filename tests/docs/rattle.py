@@ -15,7 +15,7 @@ def content(path):
 
 def crates():
     rows = [row.split('#')[0].strip() for row in content('crates.txt').splitlines()]
-    return [row.split(':')[0].strip() for row in rows if row]
+    return [row.split(':')[0].split()[0] for row in rows if row]
 
 
 def paths(crate, folder, ending):
