@@ -4,7 +4,7 @@ import os
 import re
 
 ROOT = os.path.dirname(os.path.dirname(os.path.dirname(os.path.abspath(__file__))))
-# where each crate's rows are, and the theorems that hold them to the definitions
+# where each crate's rows are, and the theorems that hold them to the definitions: in the file of that name in proofs/, or beside them
 ROWS = {'part': 'part/specs/Sheets', 'hub': 'hub/specs/Trials', 'host': 'host/specs/Increments'}
 THEOREMS = {'sheets-hold', 'further-hold', 'read_back_hold', 'lyings-hold', 'trials-hold', 'sheets_check', 'increments-hold'}
 # the paper's own rows take longest to compute, and few changes need them
@@ -50,6 +50,12 @@ def copied(change):
     return {spec for spec in reached(ROWS[change.path.split('/')[0]]) if change.path in reached(spec)}
 
 
+def theorems(own):
+    """The files of proofs/ with the theorems about the rows that are among some spec files."""
+    held = [rows.replace('/specs/', '/proofs/') for rows in ROWS.values() if rows in own]
+    return [path for path in held if os.path.exists(os.path.join(ROOT, 'crates', f'{path}.antt'))]
+
+
 def structs(path):
     """A source file with its structs alone."""
     text = content(f'{path}.rt')
@@ -65,28 +71,31 @@ def led(text, copy, own):
     return USE.sub(place, text)
 
 
-def write_specs(folder, copy, own, change, quick):
-    """A module of spec files, one of them with the change; a quick one leaves the slow theorem out."""
-    write(f'{folder}/specs/{copy}.antt', ''.join(f'pub mod {os.path.basename(spec)}\n' for spec in sorted(own)))
-    for spec in own:
-        text = content(f'{spec}.antt')
-        if change and change.path == spec:
+def write_module(folder, copy, own, files, change=None, quick=False):
+    """A module of copied files, one of them with the change; a quick one leaves the slow theorem out."""
+    write(f'{folder}/{copy}.antt', ''.join(f'pub mod {os.path.basename(path)}\n' for path in sorted(files)))
+    for path in files:
+        text = content(f'{path}.antt')
+        if change and change.path == path:
             text = text.replace(change.old, change.new)
         if quick:
             text = SLOW.sub('', text)
-        write(f'{folder}/specs/{copy}/{os.path.basename(spec)}.antt', led(text, copy, own))
+        write(f'{folder}/{copy}/{os.path.basename(path)}.antt', led(text, copy, own))
 
 
 def make(folder, changes, quick=False):
     """Writes the crate `book` to a folder: copy Ck of the rule book has the k-th change, or none where it is None."""
     copies = [copied(change) for change in changes]
-    shared = set().union(*({spec for name in own for spec in used(name)[0]} - own for own in copies))
+    shared = set().union(*({spec for name in [*own, *theorems(own)] for spec in used(name)[0]} - own for own in copies))
     shared = reached(*shared)
     sources = sorted(set().union(*(used(spec)[1] for spec in shared.union(*copies))))
     for path in sources:
         write(f'{folder}/src/{os.path.basename(path)}.rt', structs(path))
     write(f'{folder}/src/lib.rt', ''.join(f'pub mod {os.path.basename(path)};\n' for path in sources))
-    write(f'{folder}/specs/Lib.antt', ''.join(f'pub mod {copy}\n' for copy in ['Shared', *(f'C{k}' for k in range(len(copies)))]))
-    write_specs(folder, 'Shared', shared, None, quick)
-    for k, (change, own) in enumerate(zip(changes, copies)):
-        write_specs(folder, f'C{k}', own, change, quick)
+    names = [f'C{k}' for k in range(len(copies))]
+    write(f'{folder}/specs/Lib.antt', ''.join(f'pub mod {copy}\n' for copy in ['Shared', *names]))
+    write(f'{folder}/proofs/Lib.antt', ''.join(f'pub mod {copy}\n' for copy in names))
+    write_module(f'{folder}/specs', 'Shared', shared, shared)
+    for copy, change, own in zip(names, changes, copies):
+        write_module(f'{folder}/specs', copy, own, own, change, quick)
+        write_module(f'{folder}/proofs', copy, own, theorems(own), None, quick)

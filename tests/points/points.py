@@ -15,7 +15,7 @@ import tempfile
 from book import THEOREMS, make, write
 from changes import CHANGES
 
-ERROR = re.compile(r'/specs/C(\d+)/(\w+)\.antt:\d+:\d+: error: (?:`([^`]+)`: )?(.*)')
+ERROR = re.compile(r'/(?:specs|proofs)/C(\d+)/(\w+)\.antt:\d+:\d+: error: (?:`([^`]+)`: )?(.*)')
 # what is said of a theorem whose two sides are not the same
 DIFFER = ('expected type', 'computed as far as they go, the two types differ', 'as printed, the two types differ')
 AT_ONCE = 40
