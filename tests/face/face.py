@@ -1,4 +1,4 @@
-"""The functions that can be named from outside a library crate, read off its files. `python3 face.py` prints them, a line each."""
+"""The functions that can be called from outside a library crate, by name or as C's, read off its files. `python3 face.py` prints them, a line each."""
 import os
 import re
 import sys
@@ -72,29 +72,30 @@ def statement(words, at):
 class Crate:
     """The public functions of a crate; `source` gives the text of a module by its path, () for lib.rt.
 
-    Private modules are read too: a method can be named wherever its type can."""
+    Private modules are read too: a method can be named wherever its type can, and C calls what is exported wherever it stands."""
 
     def __init__(self, source):
         self.source, self.functions, self.types = source, [], {}
         self._module((), tokens(source(())), True)
 
     def _module(self, path, words, named):
-        at, public = 0, False
+        at, public, exported = 0, False, False
         while at < len(words):
             if words[at] == 'pub':
                 # pub(crate) and its like stay inside
                 public = words[at + 1] != '('
                 at = at + 1 if public else past(words, at + 1)
             elif words[at] in BETWEEN or words[at] == 'ghost' or words[at:at + 2] == ['const', 'fn']:
+                exported |= words[at] in BETWEEN
                 at += 1
             else:
-                at = self._item(path, words, at, named and public)
-                public = False
+                at = self._item(path, words, at, public and (named or exported))
+                public = exported = False
 
     def _item(self, path, words, at, named):
         word = words[at]
         if word == '#':
-            return past(words, at + 1)
+            return past(words, words.index('[', at))
         if word == 'fn':
             return self._function(path, words, at, named, '')
         if word == 'mod':

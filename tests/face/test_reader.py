@@ -15,13 +15,16 @@ class Modules(unittest.TestCase):
         self.assertEqual(read(lib='pub mod a;', a='pub fn f() {}\nfn own() {}\npub(crate) fn near() {}'), ['a f'])
 
     def test_a_function_of_the_root_counts(self):
-        self.assertEqual(read(lib='// all\nuse x::y;\npub fn f(n: u32) -> u32 { n }'), ['lib f'])
+        self.assertEqual(read(lib='// all\n#![tactic(auto)]\nuse x::y;\npub fn f(n: u32) -> u32 { n }'), ['lib f'])
 
     def test_an_exported_function_counts(self):
-        self.assertEqual(read(lib='pub mod a;', a='#[no_mangle]\npub extern "C" fn f() {}\nextern "C" fn g() {}\npub const fn h() {}'), ['a f', 'a h'])
+        self.assertEqual(read(lib='pub mod a;', a='#[unsafe(no_mangle)]\npub extern "C" fn f() {}\nextern "C" fn g() {}\npub const fn h() {}'), ['a f', 'a h'])
+
+    def test_an_exported_function_of_a_private_module_counts(self):
+        self.assertEqual(read(lib='mod a;', a='#[unsafe(no_mangle)]\npub extern "C" fn f() requires { P } {}\npub fn g() {}'), ['a f!'])
 
     def test_a_private_module_hides_all_below_it(self):
-        self.assertEqual(read(lib='mod a;\npub mod c;', a='pub mod b;\npub fn f() requires { ⌜ P ⌝ } {}', a__b='pub fn g() {}', c='fn h() {}'), [])
+        self.assertEqual(read(lib='mod a;\npub mod c;', a='pub mod b;\npub fn f() requires { P } {}', a__b='pub fn g() {}', c='fn h() {}'), [])
 
     def test_a_public_module_below_a_public_one_counts(self):
         self.assertEqual(read(lib='pub mod a;', a='pub mod b;\nmod c;', a__b='pub fn f() {}', a__c='pub fn g() {}'), ['a::b f'])
@@ -32,14 +35,14 @@ class Modules(unittest.TestCase):
 
 class Contracts(unittest.TestCase):
     def test_a_requires_of_several_lines_is_seen(self):
-        text = 'pub fn f(xs: &[u8; 4], n: usize) -> [u8; 4]\n    ensures { λ r. ⌜ P { a = 1 } ⌝ }\n    requires {\n        ⌜ n < 4\n        × Q ⌝\n    }\n{\n    g()\n}\n'
+        text = 'pub fn f(xs: &[u8; 4], n: usize) -> [u8; 4]\n    ensures { result ≡ record { a = 1 } }\n    requires {\n        (n < 4)\n        × Q\n    }\n{\n    g()\n}\n'
         self.assertEqual(read(lib=text), ['lib f!'])
 
     def test_a_requires_with_a_name_is_seen(self):
-        self.assertEqual(read(lib='pub fn f() ghost { T } ensures met { λ r. P } requires low { Q } {}\npub fn g() {}'), ['lib f!', 'lib g'])
+        self.assertEqual(read(lib='pub fn f() ghost { T } ensures met { P } requires low { Q } {}\npub fn g() {}'), ['lib f!', 'lib g'])
 
     def test_a_requires_in_a_comment_is_none(self):
-        text = '// pub fn e() requires { P } {}\npub fn f() // requires { P }\n    /* requires { P } */\n    ensures { λ r. requires } // } requires\n{ g(b"requires {", b\'{\') }\npub fn h() {}'
+        text = '// pub fn e() requires { P } {}\npub fn f() // requires { P }\n    /* requires { P } */\n    ensures { requires } // } requires\n{ g(b"requires {", b\'{\') }\npub fn h() {}'
         self.assertEqual(read(lib=text), ['lib f', 'lib h'])
 
     def test_a_requires_of_another_function_is_its_own(self):
@@ -63,7 +66,7 @@ class Methods(unittest.TestCase):
 
 class Others(unittest.TestCase):
     def test_what_is_no_function_is_passed_over(self):
-        text = 'ghost use a·b.{_≡_};\nuse a::{b, c};\npub const T: [S; 2] = [S { n: 1 }, S { n: 2 }];\nconst U: u32 = 1;\npub type V = [u8; 4];\npub enum E { A { n: u8 }, B }\npub fn f() {}'
+        text = 'ghost use a.b.{◌≡◌};\nuse a::{b, c};\npub const T: [S; 2] = [S { n: 1 }, S { n: 2 }];\nconst U: u32 = 1;\npub type V = [u8; 4];\npub enum E { A { n: u8 }, B }\npub fn f() {}'
         self.assertEqual(read(lib=text), ['lib f'])
 
     def test_what_could_hide_a_function_is_refused(self):
