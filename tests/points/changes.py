@@ -13,8 +13,6 @@ def beyond(field, bound, least=None):
 
 
 NUMBERS = [
-    ('if true then a else b = a', 'if true then a else b = b', 'both branches are the second'),
-    ('if false then a else b = b', 'if false then a else b = a', 'both branches are the first'),
     ('origin = 32768', 'origin = 32767', 'positions are kept as one less'),
     ('last = 65535', 'last = 65534', 'the last position is 32,766'),
     ('last = 65535', 'last = 65536', 'the last position is 32,768'),
