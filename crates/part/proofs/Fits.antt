@@ -208,11 +208,14 @@ pub element-fits : (chain : ℕ) (bytes : List ℕ) → Gives Ranged (There byte
 unfolding element
 element-fits chain bytes = go (eqb chain 1)
   where
+    no_class : Pointed bytes 2 21 1
+    no_class = at_class
+
     go : (t : Bool) → Gives Ranged (There bytes (if t then 0 else 2)) (if t then sequence 0 bytes else if eqb (byte 0 bytes 0) 0x2B then introduced bytes else free_run bytes)
     go true = sequence-fits 0 bytes
     go false =
         gives_either (eqb (byte 0 bytes 0) 0x2B)
-        (gives_unless 1 (eqb (byte 0xD3 bytes 1) 0xD3) 21 (sequence 2 bytes) (λ u. (at_class, λ _. there bytes 1 0xD3 (λ x. eqb x 0xD3) refl u)) (λ _. sequence-fits 2 bytes))
+        (gives_unless _ (eqb (byte 0xD3 bytes 1) 0xD3) 21 (sequence 2 bytes) (λ u. (no_class, λ _. there bytes 1 0xD3 (λ x. eqb x 0xD3) refl u)) (λ _. sequence-fits 2 bytes))
         (value (record { fit = refl; chains = omega arith }))
 
 pub found-fits : {f : Found} (chain : ℕ) (bytes : List ℕ) → element chain bytes ≡ fine f → Ranged f

@@ -77,7 +77,7 @@ module _ (widths : List ℕ) (d : Descriptor) (s : State) (part area : List ℕ)
       gives_where (eqb (length area) 4096 && eqb (length widths) 1024) 10 _ refl λ _.
       gives_where (hold (state_fields s)) 12 _ refl λ _.
       gives_where (hold (descriptor_fields d)) 15 _ refl λ _.
-      gives-only (leb (length part) 8192) 19 refl
+      gives-only _ 19 refl
 
   of_elements : {code at : ℕ} (m : Checked Unit) (n : Checked Effect) → Gives (λ _. Unit) (OfCode Before) m → (m >> n) ≡ fault code at → (code ∈ 20 to 29) ≡ true → n ≡ fault code at
   of_elements (fine _) n g h c = h
