@@ -2,6 +2,7 @@
 use Rattle.hub.specs.Requests.{may_open}
 use borrow.Author.Tests.{eq-eqb, ne_eqb, le-leb, lt-leb}
 use mathlib.Core.Path.{sym, ◌∙◌}
+use native.Mathlib.Omega.{arith}
 use Rattle.hub.proofs.entries.may_open.Goals as goal
 
 pub returns-then-is_damaged : goal.returns-then-is_damaged
@@ -26,7 +27,7 @@ returns-then-not-descriptor_holds c = rw (sym c.is_damaged.ensures ∙ c.if-is_d
 
 pub returns-then-stored-gt15 : goal.returns-then-stored-gt15
 unfolding may_open
-returns-then-stored-gt15 c = rw (sym c.is_damaged.ensures ∙ c.if-is_damaged.false, sym c.is_open_under.ensures ∙ c.if-is_open_under.false, eq-eqb _ _ c.if-e-ne0.false, lt-leb _ _ c.if-key-e.false, sym c.descriptor_holds.ensures ∙ c.if-not-descriptor_holds.false, lt-leb _ _ c.if-stored-gt15.true)
+returns-then-stored-gt15 c = rw (sym c.is_damaged.ensures ∙ c.if-is_damaged.false, sym c.is_open_under.ensures ∙ c.if-is_open_under.false, eq-eqb _ _ c.if-e-ne0.false, lt-leb _ _ c.if-key-e.false, sym c.descriptor_holds.ensures ∙ c.if-not-descriptor_holds.false, lt-leb c.args.stored 15 (omega (arith, c.if-stored-gt15.true)))
 
 pub returns : goal.returns
 unfolding may_open
