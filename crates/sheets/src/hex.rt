@@ -1,69 +1,47 @@
 // Bytes in capital hexadecimal, read and written.
-ghost use Rattle.std.specs.Prelude.{◌≡◌, ◌+◌, ◌-◌, ◌*◌, ◌/◌, ◌≤◌, ◌<◌, min, length, take};
-ghost use Rattle.sheets.specs.Hex.{digit_of, byte_of, Spelled};
+ghost use Rattle.std.specs.Prelude.{◌≡◌, ◌+◌, ◌-◌, ◌/◌, ◌≤◌, ◌<◌, min, length, take};
+ghost use Rattle.arrayvec.specs.ArrayVec.{array_vec_len};
+ghost use Rattle.sheets.specs.Hex.{digit_of, Spelled};
 
-use std::io;
+use arrayvec::ArrayVec;
+use std::fmt;
 
-// The number of a digit; of any other character 0.
+// The number of a digit; of any other character 0. The kit's `hex` and `char::to_digit` read small letters too, which `digit_of` doesn't.
 #[tactic(auto, unfolding(crate::specs::Hex::digit_of))]
 fn digit_value(c: u8) -> u8
     ensures { (result ≡ digit_of c) × (result < 16) }
 {
-    if c < b'0' {
-        return 0;
+    match c {
+        b'0'..=b'9' => c - b'0',
+        b'A'..=b'F' => c - b'A' + 10,
+        _ => 0,
     }
-    if c <= b'9' {
-        return c - b'0';
-    }
-    if c < b'A' {
-        return 0;
-    }
-    if c <= b'F' {
-        return c - b'A' + 10;
-    }
-    0
 }
 
-// Byte `k` of a text.
-fn byte_of(hex: &[u8], k: usize) -> u8
-    requires { 2 * k + 1 < length hex.now }
-    ensures { result ≡ byte_of hex.now k }
+// Adds the bytes of a text, as many as there is room for.
+pub fn decode<const CAP: usize>(hex: &[u8], out: &mut ArrayVec<u8, CAP>)
+    ensures kept { take (array_vec_len out.old) out.new.items ≡ out.old.items }
+    ensures end { array_vec_len out.new ≡ array_vec_len out.old + min (length hex.now / 2) (CAP - array_vec_len out.old) }
+    ensures spelled { Spelled hex.now (array_vec_len out.old) (array_vec_len out.new - array_vec_len out.old) out.new.items }
 {
-    let at = 2 * k;
-    digit_value(hex[at]) * 16 + digit_value(hex[at + 1])
-}
-
-fn least(a: usize, b: usize) -> usize
-    ensures { (result ≡ min a b) × ((result ≤ a) × (result ≤ b)) }
-{
-    if a < b { a } else { b }
-}
-
-// Puts the bytes of a text into `out` from `at` on, as many as there is room for, and answers where they end.
-pub fn decode(hex: &[u8], at: usize, out: &mut [u8]) -> usize
-    requires { at ≤ length out.old }
-    ensures within { (result ≤ length out.new) × (result ≡ length (take result out.new)) }
-    ensures end { result ≡ at + min (length hex.now / 2) (length out.old - at) }
-    ensures spelled { Spelled hex.now at (result - at) out.new }
-{
-    let n = least(hex.len() / 2, out.len() - at);
-    let mut k: usize = 0;
-    while k < n {
-        out[at + k] = byte_of(hex, k);
-        k += 1;
+    let (pairs, _) = hex.as_chunks::<2>();
+    for [high, low] in pairs {
+        if out.is_full() {
+            return;
+        }
+        out.push(digit_value(*high) * 16 + digit_value(*low));
     }
-    at + k
 }
 
-// The digit of a number's low four bits.
-fn digit(n: u8) -> u8 {
-    let d = n % 16;
-    if d < 10 { b'0' + d } else { b'A' + (d - 10) }
-}
+// Bytes as they are printed.
+#[derive(Clone, Copy)]
+pub struct Hex<'a>(pub &'a [u8]);
 
-pub fn show_bytes(rt: &impl Print, bytes: &[u8]) -> io::Result<()> {
-    for b in bytes {
-        rt.write_all(&[digit(*b / 16), digit(*b)])?;
+impl fmt::Display for Hex<'_> {
+    fn fmt<W: fmt::Write>(&self, f: &mut fmt::Formatter<W>) -> fmt::Result {
+        for byte in self.0 {
+            write!(f, "{byte:02X}")?;
+        }
+        Ok(())
     }
-    Ok(())
 }

@@ -1,10 +1,14 @@
--- The first k bytes of the text stand in `out`, which is as long as it was.
-use Rattle.std.proofs.Common.{◌≡◌, ◌-◌, ◌≤◌, length}
+-- Of each pair so far the byte stands behind what was there, and there was room for it.
+use Rattle.std.proofs.Common.{◌≡◌, ◌+◌, ◌-◌, ◌≤◌, take}
+use Rattle.arrayvec.specs.ArrayVec.{array_vec_len}
 use Rattle.sheets.specs.Hex.{Spelled}
 use Rattle.sheets.proofs.hex.decode.Given as goal
 
-abbrev pub invariant-loop-k : goal.invariant-loop-k
-invariant-loop-k l = (l.k ≤ l.n) × ((length l.out ≡ length l.initial.out) × Spelled l.hex l.at l.k l.out)
-
-abbrev pub decreases-loop-k : goal.decreases-loop-k
-decreases-loop-k l = l.n - l.k
+abbrev pub invariant-loop-high : goal.invariant-loop-high
+invariant-loop-high g l =
+    record {
+      kept : take (array_vec_len l.fn.out) l.out.items ≡ l.fn.out.items;
+      end : array_vec_len l.out ≡ array_vec_len l.fn.out + l.high-index;
+      room : l.high-index ≤ g.row.CAP - array_vec_len l.fn.out;
+      spelled : Spelled l.hex (array_vec_len l.fn.out) l.high-index l.out.items;
+    }
