@@ -5,6 +5,7 @@ ghost use Rattle.host.specs.Checked.{checked_at, checked};
 use part::sheet::{on_sheet, sheet_state};
 
 // 0 where the rules accept the part on the paper's sheet at some increment; else 19 to 29. 15 where no descriptor has such an increment.
+// Codes are numbers here, since C's export of this name hands them on as they are.
 pub fn halviruso_check_at(part: &[u8], increment: u32) -> u32
     ensures { result ≡ checked_at increment part.now }
 {

@@ -6,6 +6,7 @@ use part::interpret::interpret;
 use part::shapes::{Descriptor, Interpreted, State};
 
 // Interprets a part from a state; its records are added to the area.
+// All that a part needs is passed one by one, as C's export of this name has it.
 pub fn halviruso_interpret(
     part: &[u8],
     widths: &[u16],

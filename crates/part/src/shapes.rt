@@ -2,7 +2,7 @@
 
 // A place on the sheet: I along the lines, B down the page.
 #[repr(C)]
-#[derive(Clone, Copy, PartialEq, Eq)]
+#[derive(Clone, Copy, PartialEq, Eq, Default)]
 pub struct Point {
     pub i: u32,
     pub b: u32,
@@ -10,7 +10,7 @@ pub struct Point {
 
 // What a job was opened with. Its points are plain numbers, with no origin.
 #[repr(C)]
-#[derive(Clone, Copy, PartialEq, Eq)]
+#[derive(Clone, Copy, PartialEq, Eq, Default)]
 pub struct Descriptor {
     pub size: Point,
     pub initial: Point,

@@ -74,8 +74,8 @@ impl Job {
 
     // The next part goes on from the state that this one left.
     pub fn submit(&mut self, part: &Part) -> Answer
-        ensures answer { result ≡ (interpreted (replicate 1024 self.old.width) (lined 240) self.old.state part.now.bytes.items self.old.area).answer }
-        ensures state { self.new.state ≡ (interpreted (replicate 1024 self.old.width) (lined 240) self.old.state part.now.bytes.items self.old.area).state }
+        ensures answered { let r = interpreted (replicate 1024 self.old.width) (lined 240) self.old.state part.now.bytes.items self.old.area in
+            (result ≡ r.answer) × (self.new.state ≡ r.state) }
         ensures area { self.new.area ≡ area_after (replicate 1024 self.old.width) (lined 240) self.old.state part.now.bytes.items self.old.area }
         ensures width { self.new.width ≡ self.old.width }
     {
