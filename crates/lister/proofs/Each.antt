@@ -1,23 +1,19 @@
--- The texts of some numbers, from the k-th on: that of the k-th, and those from the next on.
+-- The texts of the first some numbers: with the next behind them, and how long they are at most.
 -- Assumes nothing.
-use Prim.Native.Nat.{ℕ, suc, ◌+◌, ◌*◌, ◌<◌, ◌≤◌}
-use mathlib.Core.Path.{◌≡◌, ap}
-use mathlib.Core.List.{List, [], ◌∷◌, ◌++◌}
-use native.Mathlib.Omega.{arith}
+use Rattle.std.proofs.Common.{◌≡◌, ℕ, suc, ◌+◌, ◌*◌, ◌<◌, ◌≤◌, List, [], ◌∷◌, ◌++◌, length, get_or, take, ◌∙◌, ap, sym, arith, append_assoc, length-append, length-take-le, add-one}
+use Rattle.std.proofs.lemmas.List.{append-nil}
+use Rattle.std.proofs.Math.Seq.{take-suc}
 use native.Mathlib.Nat.{mul-suc}
-use native.Mathlib.Numerals.{add-one}
-use lib.ListN.{length, length-append, get_or, drop, drop_of_length-le}
-use lib.Seq.{drop-cons}
 use Rattle.lister.specs.Lines.{each}
 
 module _ (text : ℕ → List ℕ) where
-  pub each_none : (ns : List ℕ) (k : ℕ) → length ns ≤ k → each text (drop k ns) ≡ []
+  each_last : (ns : List ℕ) (n : ℕ) → each text (ns ++ (n ∷ [])) ≡ each text ns ++ text n
   unfolding each
-  each_none ns k h = ap (each text) (drop_of_length-le ns h)
+  each_last [] n = append-nil (text n)
+  each_last (m ∷ ns) n = rw (each_last ns n) (sym (append_assoc (text m) (each text ns) (text n)))
 
-  pub each_more : (ns : List ℕ) (k : ℕ) → k < length ns → each text (drop k ns) ≡ text (get_or ns k 0) ++ each text (drop (k + 1) ns)
-  unfolding each
-  each_more ns k h = rw (drop-cons ns k 0 h, add-one k)
+  pub each_next : (ns : List ℕ) (i : ℕ) → i < length ns → each text (take (i + 1) ns) ≡ each text (take i ns) ++ text (get_or ns i 0)
+  each_next ns i h = ap (λ k. each text (take k ns)) (add-one i) ∙ ap (each text) (take-suc ns i 0 h) ∙ each_last (take i ns) (get_or ns i 0)
 
   pub each_short : (most : ℕ) → ((n : ℕ) → length (text n) ≤ most) → (ns : List ℕ) → length (each text ns) ≤ most * length ns
   unfolding each
@@ -28,3 +24,10 @@ module _ (text : ℕ → List ℕ) where
       let c = h n in
       let d : most * suc (length ns) ≡ most * length ns + most = mul-suc most (length ns) in
       omega (arith, a, b, c, d)
+
+  -- behind a text, where there is room for all of them
+  pub each_within : (most : ℕ) → ((n : ℕ) → length (text n) ≤ most) → (before ns : List ℕ) (i : ℕ) → i ≤ length ns → length (before ++ each text (take i ns)) ≤ length before + most * i
+  each_within most h before ns i within =
+      let a = length-append before (each text (take i ns)) in
+      let b = rw (length-take-le i ns within) at (each_short most h (take i ns)) in
+      omega (arith, a, b)

@@ -1,4 +1,3 @@
-pub mod Puts
 pub mod Each
 pub mod Digits
 pub mod Lines

@@ -1,19 +1,23 @@
--- The lines of some records: how long one is at most; none where no record is whole, and else that of the first and those of the rest.
+-- The lines of some records, one after the other: how long one is at most, and what is left.
 -- Assumes nothing.
-use Prim.Native.Nat.{ℕ, zero, suc, ◌+◌, ◌-◌, ◌*◌, ◌≤◌}
-use mathlib.Core.Path.{◌≡◌, refl, ◌∙◌, ap}
-use mathlib.Core.Bool.{Bool, true, false, false≢true, ◌&&◌, ◌||◌}
-use mathlib.Core.List.{List, [], ◌∷◌, ◌++◌}
-use native.Mathlib.Omega.{arith}
+use Rattle.std.proofs.Common.{◌≡◌, ℕ, zero, suc, ◌+◌, ◌*◌, ◌≤◌, Bool, true, false, List, [], ◌∷◌, ◌++◌, length, take, drop, refl, ◌∙◌, sym, arith, append_assoc, length-append, length-drop, length-take-le}
+use Rattle.std.specs.Prelude.{if◌then◌else◌, ◌&&◌, ◌||◌, leb, eqb}
+use Rattle.std.proofs.lemmas.List.{append-nil}
 use borrow.Author.Tests.{leb-true, eqb-true}
-use lib.ListN.{length, length-append, take, drop, length-drop, drop_of_length-le}
-use lib.Seq.{take_all, length-take-le, drop-drop}
-use lib.Dec.{leb, eqb}
-use Rattle.std.specs.Prelude.{if◌then◌else◌}
+use mathlib.Core.Bool.{false≢true}
 use Rattle.part.specs.Records.{little_at, is_whole}
 use Rattle.lister.specs.Lines.{space, newline, hex_bytes, numbers}
 use Rattle.lister.specs.Listing.{«T», «R», text_numbers, rule_numbers, text_line, rule_line, record_line, record_lines}
+use Rattle.lister.specs.Code.{kind_of}
+use Rattle.lister.specs.declared.records.Kind.TheVariants.{Text, Rule}
 use Rattle.lister.proofs.Digits.{numbers_short, hex_short}
+
+pub text_is : (r : List ℕ) → kind_of r ≡ Text → record_line r ≡ text_line r
+text_is r h = go (eqb (little_at r 2) 1) h
+  where
+    go : (b : Bool) → (if b then Text else Rule) ≡ Text → (if b then text_line r else rule_line r) ≡ text_line r
+    go true h = refl
+    go false h = cc
 
 text_short : (r : List ℕ) → 16 ≤ length r → length (text_line r) ≤ 3 * length r
 text_short r h =
@@ -70,51 +74,46 @@ pub lines_more : (most : ℕ) (bytes : List ℕ) → is_whole bytes ≡ true
 unfolding record_lines
 lines_more most bytes h = rw (record_lines, h)
 
--- ---- the record at an offset, where the bytes from there on are cut by their own length
+-- ---- of some bytes, those that are left when the lines of the first records stand behind what there was
 
-pub record Next (bytes : List ℕ) (k n : ℕ) : Type 0 where
-  pub is : is_whole (drop k bytes) ≡ true
-  pub its : n ≡ little_at (drop k bytes) 0
-  pub long : 16 ≤ n
-  pub within : k + n ≤ length bytes
+pub record Left (before bytes now rest : List ℕ) : Type 0 where
+  pub most : ℕ
+  pub enough : length rest ≤ 16 * most
+  pub room : length now + 3 * length rest ≤ length before + 3 * length bytes
+  pub lines : now ++ record_lines most rest ≡ before ++ record_lines 256 bytes
 
-module _ (bytes : List ℕ) (k : ℕ) (h : k ≤ length bytes) where
-  pub rest : take (length bytes - k) (drop k bytes) ≡ drop k bytes
-  rest = take_all (length bytes - k) (drop k bytes) (let l = length-drop k bytes in omega arith)
+pub all_left : (before bytes : List ℕ) → length bytes ≤ 4096 → Left before bytes before bytes
+all_left before bytes h = record { most = 256; enough = omega arith; room = omega arith; lines = refl }
 
-  pub next : (n : ℕ) → is_whole (take (length bytes - k) (drop k bytes)) ≡ true → n ≡ little_at (take (length bytes - k) (drop k bytes)) 0 → Next bytes k n
-  next n a b =
-      let is = rw rest at a in
-      let its = rw rest at b in
-      let w = whole (drop k bytes) is in
-      let l = length-drop k bytes in
-      let long = w.long in
-      let within = w.within in
-      record { is = is; its = its; long = omega (arith, its, long); within = omega (arith, its, within, l, h) }
+-- one record more
+pub fewer_left : (before bytes now rest : List ℕ) → Left before bytes now rest → is_whole rest ≡ true
+    → Left before bytes (now ++ record_line (take (little_at rest 0) rest)) (drop (little_at rest 0) rest)
+fewer_left before bytes now rest l h = go l.most l.enough l.lines
+  where
+    n : ℕ
+    n = little_at rest 0
 
-  pub no_next : is_whole (take (length bytes - k) (drop k bytes)) ≡ false → is_whole (drop k bytes) ≡ false
-  no_next a = rw rest at a
+    w : Whole rest
+    w = whole rest h
 
-  -- its bytes
-  pub its_bytes : (n : ℕ) → take n (take (length bytes - k) (drop k bytes)) ≡ take n (drop k bytes)
-  its_bytes n = ap (take n) rest
+    line : List ℕ
+    line = record_line (take n rest)
 
-  pub its_length : (n : ℕ) → k + n ≤ length bytes → length (take n (drop k bytes)) ≡ n
-  its_length n w = length-take-le n (drop k bytes) (let l = length-drop k bytes in omega arith)
+    go : (most : ℕ) → length rest ≤ 16 * most → now ++ record_lines most rest ≡ before ++ record_lines 256 bytes → Left before bytes (now ++ line) (drop n rest)
+    go zero few is = absurd (let a = w.long in let b = w.within in omega arith)
+    go (suc most) few is =
+        let long = w.long in
+        let within = w.within in
+        let room = l.room in
+        let its = length-take-le n rest within in
+        let short = line_short (take n rest) (omega arith) in
+        let others = length-drop n rest in
+        let both = length-append now line in
+        record { most = most; enough = omega arith; room = omega arith; lines = append_assoc now line (record_lines most (drop n rest)) ∙ rw (lines_more most rest h) at is }
 
-pub none-behind : (bytes : List ℕ) (k : ℕ) → length bytes ≤ k → is_whole (drop k bytes) ≡ false
-none-behind bytes k h = ap is_whole (drop_of_length-le bytes h)
-
--- one record more: its line, and the lines from behind it on
-pub record Step (bytes : List ℕ) (k n most : ℕ) : Type 0 where
-  pub later : ℕ
-  pub enough : length bytes - (k + n) ≤ 16 * later
-  pub lines : record_lines most (drop k bytes) ≡ record_line (take n (drop k bytes)) ++ record_lines later (drop (k + n) bytes)
-
-pub step : (bytes : List ℕ) (k n most : ℕ) → Next bytes k n → length bytes - k ≤ 16 * most → Step bytes k n most
-step bytes k n zero x h = absurd (let a = x.long in let b = x.within in omega (arith, a, b, h))
-step bytes k n (suc most) x h =
-    let a = x.long in
-    let b = x.within in
-    let more = rw (← x.its) at (lines_more most (drop k bytes) x.is) in
-    record { later = most; enough = omega (arith, a, b, h); lines = more ∙ ap (λ (l : List ℕ). record_line (take n (drop k bytes)) ++ record_lines most l) (drop-drop n k bytes) }
+-- no more is whole
+pub none_left : (before bytes now rest : List ℕ) → Left before bytes now rest → is_whole rest ≡ false
+    → (now ≡ before ++ record_lines 256 bytes) × (length now ≤ length before + 3 * length bytes)
+none_left before bytes now rest l h =
+    let room = l.room in
+    (sym (append-nil now) ∙ rw (lines_none l.most rest h) at l.lines, omega arith)

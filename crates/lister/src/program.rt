@@ -22,20 +22,15 @@ pub fn list_input<R: Input + Print + Eprint + Alloc>(rt: &R, increment: u32) -> 
 // Says what failed and why on standard error. A line that can't be written there has no other place to go.
 fn failed<R: Eprint + Alloc>(rt: &R, stream: &str, why: &io::Error) -> ExitCode {
     let _ = match format!(in rt.alloc(); "{why}") {
-        Ok(words) => say_failed(rt, stream, without_number(words.as_str())),
+        Ok(words) => eprintln!(rt; "listing: {stream}: {}", without_number(words.as_str())),
         Err(_) => eprintln!(rt; "listing: {stream}: {why}"),
     };
     ExitCode::FAILURE
 }
 
-fn say_failed(rt: &impl Eprint, stream: &str, words: &str) -> io::Result<()> {
-    eprintln!(rt; "listing: {stream}: {words}")
-}
-
 // The system's words for an error, without the number that stands behind them.
 fn without_number(words: &str) -> &str {
-    match words.split_once(" (os error ") {
-        Some((text, _number)) => text,
-        None => words,
-    }
+    words
+        .split_once(" (os error ")
+        .map_or(words, |(text, _)| text)
 }

@@ -1,101 +1,84 @@
 // Records as lines.
-ghost use Rattle.std.specs.Prelude.{◌≡◌, ◌+◌, ◌*◌, ◌≤◌, length};
-ghost use Rattle.std.proofs.lemmas.List.Edits.{sets};
-ghost use Rattle.lister.specs.Listing.{plain_at, signed_at, text_numbers, rule_numbers, text_line, rule_line, record_line, record_lines};
+ghost use Rattle.std.specs.Prelude.{◌≡◌, ◌+◌, ◌*◌, ◌≤◌, ◌++◌, ◌∷◌, [], length, map};
+ghost use Rattle.lister.specs.Listing.{plain_at, signed_at, record_line, record_lines};
+ghost use Rattle.lister.specs.Code.{kept, kind_of};
 
-use super::text::{MIDDLE, put_characters, put_fields, put_line};
-use part::numbers::wide;
+use super::text::{Listing, Number};
 use part::whole::{is_whole, little_at};
 
-// Two bytes of a record, as a number to be put.
-fn plain_at(r: &[u8], k: u32) -> u64
-    ensures { result ≡ plain_at r.now k }
+// What a record shows.
+enum Kind {
+    Text,
+    Rule,
+}
+
+impl Kind {
+    // A whole record has one of the two.
+    fn of(r: &[u8]) -> Self
+        ensures { result ≡ kind_of r.now }
+    {
+        if little_at(r, 2) == 1 {
+            Kind::Text
+        } else {
+            Kind::Rule
+        }
+    }
+}
+
+// Two bytes of a record.
+fn plain_at(r: &[u8], k: u32) -> Number
+    ensures { kept result ≡ plain_at r.now k }
 {
-    little_at(r, k) as u64 + MIDDLE
+    Number::Plain(little_at(r, k) as u16)
 }
 
 // The same with a sign.
-fn signed_at(r: &[u8], k: u32) -> u64
-    ensures { result ≡ signed_at r.now k }
+fn signed_at(r: &[u8], k: u32) -> Number
+    ensures { kept result ≡ signed_at r.now k }
 {
-    let v = little_at(r, k) as u64;
-    if v < 32768 { v + MIDDLE } else { v }
+    Number::Signed((little_at(r, k) as u16).cast_signed())
 }
 
-// I, B, font, colour, adjustment, variable space.
-fn text_numbers(r: &[u8]) -> [u64; 6]
-    ensures { result ≡ text_numbers r.now }
+// I, B, font and colour of a text, or I, B, 0 or 1 and colour of a rule; what the kind has fifth; variable space or width.
+fn numbers(r: &[u8], fifth: Number) -> [Number; 6]
+    ensures { map kept result ≡ signed_at r.now 4 ∷ signed_at r.now 6 ∷ plain_at r.now 8 ∷ plain_at r.now 10 ∷ kept fifth ∷ plain_at r.now 14 ∷ [] }
 {
     [
         signed_at(r, 4),
         signed_at(r, 6),
         plain_at(r, 8),
         plain_at(r, 10),
-        signed_at(r, 12),
+        fifth,
         plain_at(r, 14),
     ]
 }
 
-// I, B, 0 or 1, colour, length, width.
-fn rule_numbers(r: &[u8]) -> [u64; 6]
-    ensures { result ≡ rule_numbers r.now }
-{
-    [
-        signed_at(r, 4),
-        signed_at(r, 6),
-        plain_at(r, 8),
-        plain_at(r, 10),
-        plain_at(r, 12),
-        plain_at(r, 14),
-    ]
-}
-
-// A text's line: its numbers and its characters.
-fn put_text(out: &mut [u8], at: usize, r: &[u8]) -> usize
-    requires { (16 ≤ length r.now) × (at + 3 * length r.now ≤ length out.old) }
-    ensures { (result ≡ at + length (text_line r.now)) × (out.new ≡ sets out.old at (text_line r.now)) }
-{
-    let ns = text_numbers(r);
-    let to = put_fields(out, at, b"T", &ns);
-    put_characters(out, to, &r[16..])
-}
-
-// A rule's line: its numbers.
-fn put_rule(out: &mut [u8], at: usize, r: &[u8]) -> usize
-    requires { (16 ≤ length r.now) × (at + 3 * length r.now ≤ length out.old) }
-    ensures { (result ≡ at + length (rule_line r.now)) × (out.new ≡ sets out.old at (rule_line r.now)) }
-{
-    let ns = rule_numbers(r);
-    put_line(out, at, b"R", &ns)
-}
-
-// A record's line, by its kind.
-fn put_record(out: &mut [u8], at: usize, r: &[u8]) -> usize
-    requires { (16 ≤ length r.now) × (at + 3 * length r.now ≤ length out.old) }
-    ensures { (result ≡ at + length (record_line r.now)) × (out.new ≡ sets out.old at (record_line r.now)) }
-{
-    if little_at(r, 2) == 1 {
-        return put_text(out, at, r);
-    }
-    put_rule(out, at, r)
-}
-
-// The lines of some records, as long as they are whole.
-pub fn put_records(out: &mut [u8], at: usize, bytes: &[u8]) -> usize
-    requires { (length bytes.now ≤ 4096) × (at + 3 * length bytes.now ≤ length out.old) }
-    ensures lines { (result ≡ at + length (record_lines 256 bytes.now)) × (out.new ≡ sets out.old at (record_lines 256 bytes.now)) }
-    ensures short { result ≤ at + 3 * length bytes.now }
-{
-    let mut k: usize = 0;
-    let mut to = at;
-    while k < bytes.len() {
-        let rest = &bytes[k..];
-        if !is_whole(rest) {
-            return to;
+impl Listing {
+    // A record's line: of a text its numbers and its characters, of a rule its numbers.
+    fn record(&mut self, r: &[u8])
+        requires { (16 ≤ length r.now) × (length self.old + 3 * length r.now ≤ 16384) }
+        ensures { self.new ≡ self.old ++ record_line r.now }
+    {
+        match Kind::of(r) {
+            Kind::Text => {
+                self.fields(b"T", &numbers(r, signed_at(r, 12)));
+                self.characters(&r[16..]);
+            }
+            Kind::Rule => self.line(b"R", &numbers(r, plain_at(r, 12))),
         }
-        let n = wide(little_at(rest, 0));
-        to = put_record(out, to, &rest[..n]);
-        k += n;
     }
-    to
+
+    // The lines of some records, as long as they are whole.
+    pub fn records(&mut self, bytes: &[u8])
+        requires { (length bytes.now ≤ 4096) × (length self.old + 3 * length bytes.now ≤ 16384) }
+        ensures lines { self.new ≡ self.old ++ record_lines 256 bytes.now }
+        ensures short { length self.new ≤ length self.old + 3 * length bytes.now }
+    {
+        let mut rest = bytes;
+        while is_whole(rest) {
+            let (record, later) = rest.split_at(little_at(rest, 0) as usize);
+            self.record(record);
+            rest = later;
+        }
+    }
 }

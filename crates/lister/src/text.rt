@@ -1,131 +1,126 @@
-// Text put into a buffer, in ASCII: each function puts its text at `at` and answers where it ends.
-ghost use Rattle.std.specs.Prelude.{◌≡◌, ◌+◌, ◌*◌, ◌≤◌, ◌<◌, [], ◌∷◌, ◌++◌, length};
-ghost use Rattle.std.proofs.lemmas.List.Edits.{sets};
-ghost use Rattle.lister.specs.Lines.{digits, numeral, numbers, hex_digit, hex_byte, hex_bytes, line_of, characters_in_hex};
+// The text of a listing as far as it has come, in ASCII: each method puts its own behind it.
+ghost use Rattle.std.specs.Prelude.{◌≡◌, ℕ, ◌+◌, ◌*◌, ◌≤◌, ◌<◌, ◌++◌, List, [], length, map};
+ghost use Rattle.lister.specs.Lines.{numeral, numbers, hex_digit, hex_bytes, line_of, characters_in_hex};
+ghost use Rattle.lister.specs.Code.{kept};
 
-// Numbers are kept plus this, so that none is negative.
-pub const MIDDLE: u64 = 65536;
+use arrayvec::ArrayVec;
+use itoa::Buffer;
+use std::marker::Model;
 
-// One character.
-fn put_one(out: &mut [u8], at: usize, c: u8) -> usize
-    requires { at + 1 ≤ length out.old }
-    ensures { (result ≡ at + 1) × (out.new ≡ sets out.old at (c ∷ [])) }
-{
-    out[at] = c;
-    at + 1
+// Room for every listing, with no heap.
+const ROOM: usize = 16384;
+
+// A number of two bytes, without or with a sign: five digits at most.
+#[derive(Clone, Copy)]
+pub enum Number {
+    Plain(u16),
+    Signed(i16),
 }
 
-// Some characters as they are.
-fn put_word(out: &mut [u8], at: usize, word: &[u8]) -> usize
-    requires { at + length word.now ≤ length out.old }
-    ensures { (result ≡ at + length word.now) × (out.new ≡ sets out.old at word.now) }
-{
-    let mut k: usize = 0;
-    while k < word.len() {
-        out[at + k] = word[k];
-        k += 1;
-    }
-    at + k
+#[derive(Drop)]
+pub struct Listing {
+    text: ArrayVec<u8, ROOM>,
 }
 
-// A number's digits, `most` at most.
-fn put_digits(out: &mut [u8], at: usize, n: u64, most: usize) -> usize
-    requires { at + most ≤ length out.old }
-    ensures { (result ≡ at + length (digits most n)) × (out.new ≡ sets out.old at (digits most n)) }
-{
-    if most == 0 {
-        return at;
-    }
-    let digit = b'0' + (n % 10) as u8;
-    if n < 10 {
-        return put_one(out, at, digit);
-    }
-    let to = put_digits(out, at, n / 10, most - 1);
-    put_one(out, to, digit)
+// Clauses see the text.
+impl Model for Listing {
+    ghost Value = { List ℕ };
+
+    ghost view = { λ l. l.text.items };
 }
 
-// A number, with a minus where it is negative.
-fn put_number(out: &mut [u8], at: usize, kept: u64) -> usize
-    requires { at + 6 ≤ length out.old }
-    ensures { (result ≡ at + length (numeral kept)) × (out.new ≡ sets out.old at (numeral kept)) }
-{
-    if kept < MIDDLE {
-        let to = put_one(out, at, b'-');
-        return put_digits(out, to, MIDDLE - kept, 5);
+impl Listing {
+    // Of nothing so far.
+    pub fn new() -> Self
+        ensures { result ≡ [] }
+    {
+        Listing {
+            text: ArrayVec::new(),
+        }
     }
-    put_digits(out, at, kept - MIDDLE, 5)
+
+    // The text.
+    pub fn as_slice(&self) -> &[u8]
+        ensures value { result.now ≡ self.now }
+        ensures fits { length result.now ≤ 16384 }
+    {
+        self.text.as_slice()
+    }
+
+    // Some characters as they are.
+    pub fn put(&mut self, word: &[u8])
+        requires { length self.old + length word.now ≤ 16384 }
+        ensures { self.new ≡ self.old ++ word.now }
+    {
+        self.text.try_extend_from_slice(word).unwrap();
+    }
+
+    // A number, with a minus where it is negative.
+    fn number(&mut self, n: Number)
+        requires { length self.old + 6 ≤ 16384 }
+        ensures { self.new ≡ self.old ++ numeral (kept n) }
+    {
+        let mut digits = Buffer::new();
+        match n {
+            Number::Plain(n) => self.put(digits.format(n).as_bytes()),
+            Number::Signed(n) => self.put(digits.format(n).as_bytes()),
+        }
+    }
+
+    // Numbers, a space before each.
+    fn numbers(&mut self, ns: &[Number])
+        requires { length self.old + 7 * length ns.now ≤ 16384 }
+        ensures { self.new ≡ self.old ++ numbers (map kept ns.now) }
+    {
+        for n in ns {
+            self.put(b" ");
+            self.number(*n);
+        }
+    }
+
+    // Bytes in capital hexadecimal.
+    fn hex(&mut self, bytes: &[u8])
+        requires { length self.old + 2 * length bytes.now ≤ 16384 }
+        ensures { self.new ≡ self.old ++ hex_bytes bytes.now }
+    {
+        for b in bytes {
+            self.put(&[hex_digit(b / 16), hex_digit(b % 16)]);
+        }
+    }
+
+    // A word and numbers.
+    pub fn fields(&mut self, word: &[u8], ns: &[Number])
+        requires { length self.old + length word.now + 7 * length ns.now ≤ 16384 }
+        ensures { self.new ≡ self.old ++ (word.now ++ numbers (map kept ns.now)) }
+    {
+        self.put(word);
+        self.numbers(ns);
+    }
+
+    // A word and numbers, and the end of the line.
+    pub fn line(&mut self, word: &[u8], ns: &[Number])
+        requires { length self.old + length word.now + 7 * length ns.now + 1 ≤ 16384 }
+        ensures { self.new ≡ self.old ++ line_of word.now (map kept ns.now) }
+    {
+        self.fields(word, ns);
+        self.put(b"\n");
+    }
+
+    // Characters behind a space, in hexadecimal, and the end of the line.
+    pub fn characters(&mut self, bytes: &[u8])
+        requires { length self.old + 2 * length bytes.now + 2 ≤ 16384 }
+        ensures { self.new ≡ self.old ++ characters_in_hex bytes.now }
+    {
+        self.put(b" ");
+        self.hex(bytes);
+        self.put(b"\n");
+    }
 }
 
-// Numbers, a space before each.
-fn put_numbers(out: &mut [u8], at: usize, ns: &[u64]) -> usize
-    requires { at + 7 * length ns.now ≤ length out.old }
-    ensures { (result ≡ at + length (numbers ns.now)) × (out.new ≡ sets out.old at (numbers ns.now)) }
-{
-    let mut k: usize = 0;
-    let mut to = at;
-    while k < ns.len() {
-        let from = put_one(out, to, b' ');
-        to = put_number(out, from, ns[k]);
-        k += 1;
-    }
-    to
-}
-
-// The digit of a number below 16.
+// The digit of a number below 16. `{:02X}` prints to a writer that may fail, and `list` can't; the kit's hex has small letters alone.
 fn hex_digit(n: u8) -> u8
     requires { n < 16 }
     ensures { result ≡ hex_digit n }
 {
-    if n < 10 { b'0' + n } else { b'7' + n }
-}
-
-// A byte's two digits.
-fn put_byte(out: &mut [u8], at: usize, b: u8) -> usize
-    requires { at + 2 ≤ length out.old }
-    ensures { (result ≡ at + 2) × (out.new ≡ sets out.old at (hex_byte b)) }
-{
-    let to = put_one(out, at, hex_digit(b / 16));
-    put_one(out, to, hex_digit(b % 16))
-}
-
-// Bytes in capital hexadecimal.
-fn put_hex(out: &mut [u8], at: usize, bytes: &[u8]) -> usize
-    requires { at + 2 * length bytes.now ≤ length out.old }
-    ensures { (result ≡ at + length (hex_bytes bytes.now)) × (out.new ≡ sets out.old at (hex_bytes bytes.now)) }
-{
-    let mut k: usize = 0;
-    let mut to = at;
-    while k < bytes.len() {
-        to = put_byte(out, to, bytes[k]);
-        k += 1;
-    }
-    to
-}
-
-// A word and numbers.
-pub fn put_fields(out: &mut [u8], at: usize, word: &[u8], ns: &[u64]) -> usize
-    requires { at + length word.now + 7 * length ns.now ≤ length out.old }
-    ensures { (result ≡ at + length (word.now ++ numbers ns.now)) × (out.new ≡ sets out.old at (word.now ++ numbers ns.now)) }
-{
-    let to = put_word(out, at, word);
-    put_numbers(out, to, ns)
-}
-
-// A word and numbers, and the end of the line.
-pub fn put_line(out: &mut [u8], at: usize, word: &[u8], ns: &[u64]) -> usize
-    requires { at + length word.now + 7 * length ns.now + 1 ≤ length out.old }
-    ensures { (result ≡ at + length (line_of word.now ns.now)) × (out.new ≡ sets out.old at (line_of word.now ns.now)) }
-{
-    let to = put_fields(out, at, word, ns);
-    put_one(out, to, b'\n')
-}
-
-// Characters behind a space, in hexadecimal, and the end of the line.
-pub fn put_characters(out: &mut [u8], at: usize, bytes: &[u8]) -> usize
-    requires { at + 2 * length bytes.now + 2 ≤ length out.old }
-    ensures { (result ≡ at + length (characters_in_hex bytes.now)) × (out.new ≡ sets out.old at (characters_in_hex bytes.now)) }
-{
-    let to = put_one(out, at, b' ');
-    let to = put_hex(out, to, bytes);
-    put_one(out, to, b'\n')
+    if n < 10 { b'0' + n } else { b'A' + (n - 10) }
 }
