@@ -1,68 +1,33 @@
 -- The lines of some records, one after the other: how long one is at most, and what is left.
 -- Assumes nothing.
-use Rattle.std.proofs.Common.{◌≡◌, ℕ, zero, suc, ◌+◌, ◌*◌, ◌≤◌, Bool, true, false, List, [], ◌∷◌, ◌++◌, length, take, drop, refl, ◌∙◌, sym, arith, append_assoc, length-append, length-drop, length-take-le}
-use Rattle.std.specs.Prelude.{if◌then◌else◌, ◌&&◌, ◌||◌, leb, eqb}
+use Rattle.std.proofs.Common.{◌≡◌, ℕ, zero, suc, ◌+◌, ◌*◌, ◌≤◌, Bool, true, false, List, [], ◌++◌, length, take, drop, refl, ◌∙◌, sym, arith, append_assoc, length-append, length-drop, length-take-le}
+use Rattle.std.specs.Prelude.{if◌then◌else◌, eqb}
 use Rattle.std.proofs.lemmas.List.{append-nil}
-use borrow.Author.Tests.{leb-true, eqb-true}
-use mathlib.Core.Bool.{false≢true}
 use Rattle.part.specs.Records.{little_at, is_whole}
-use Rattle.lister.specs.Lines.{space, newline, hex_bytes, numbers}
+use Rattle.lister.specs.Lines.{newline, hex_bytes, numbers, characters_in_hex}
 use Rattle.lister.specs.Listing.{«T», «R», text_numbers, rule_numbers, text_line, rule_line, record_line, record_lines}
 use Rattle.lister.specs.Code.{kind_of}
-use Rattle.lister.specs.declared.records.Kind.TheVariants.{Text, Rule}
+use Rattle.lister.specs.declared.records.Kind.TheVariants.{Text}
 use Rattle.lister.proofs.Digits.{numbers_short, hex_short}
 
 pub text_is : (r : List ℕ) → kind_of r ≡ Text → record_line r ≡ text_line r
-text_is r h = go (eqb (little_at r 2) 1) h
-  where
-    go : (b : Bool) → (if b then Text else Rule) ≡ Text → (if b then text_line r else rule_line r) ≡ text_line r
-    go true h = refl
-    go false h = cc
-
-text_short : (r : List ℕ) → 16 ≤ length r → length (text_line r) ≤ 3 * length r
-text_short r h =
-    let a = length-append («T» ++ numbers (text_numbers r)) (((space ∷ []) ++ hex_bytes (drop 16 r)) ++ newline) in
-    let b = length-append (hex_bytes (drop 16 r)) newline in
-    let c = numbers_short (text_numbers r) in
-    let d = hex_short (drop 16 r) in
-    let e = length-drop 16 r in
-    omega (arith, a, b, c, d, e)
-
-rule_short : (r : List ℕ) → 16 ≤ length r → length (rule_line r) ≤ 3 * length r
-rule_short r h =
-    let a = length-append («R» ++ numbers (rule_numbers r)) newline in
-    let b = numbers_short (rule_numbers r) in
-    omega (arith, a, b)
+text_is r h = grind arith
 
 pub line_short : (r : List ℕ) → 16 ≤ length r → length (record_line r) ≤ 3 * length r
 line_short r h = go (eqb (little_at r 2) 1)
   where
     go : (b : Bool) → length (if b then text_line r else rule_line r) ≤ 3 * length r
-    go true = text_short r h
-    go false = rule_short r h
+    go true =
+        let characters = drop 16 r in
+        omega (arith, length-append («T» ++ numbers (text_numbers r)) (characters_in_hex characters), length-append (hex_bytes characters) newline, numbers_short (text_numbers r), hex_short characters, length-drop 16 r)
+    go false = omega (arith, length-append («R» ++ numbers (rule_numbers r)) newline, numbers_short (rule_numbers r))
 
 pub record Whole (bytes : List ℕ) : Type 0 where
   pub long : 16 ≤ little_at bytes 0
   pub within : little_at bytes 0 ≤ length bytes
 
 pub whole : (bytes : List ℕ) → is_whole bytes ≡ true → Whole bytes
-whole bytes h = go (eqb (little_at bytes 2) 1) (leb 16 n) (leb-true 16 n) (eqb (little_at bytes 2) 2) (eqb n 16) (eqb-true n 16) (leb n (length bytes)) (leb-true n (length bytes)) h
-  where
-    n : ℕ
-    n = little_at bytes 0
-
-    go : (one long : Bool) → (long ≡ true → 16 ≤ n) → (two exact : Bool) → (exact ≡ true → n ≡ 16) → (fits : Bool) → (fits ≡ true → n ≤ length bytes)
-        → ((one && long || two && exact) && fits) ≡ true → Whole bytes
-    go true true l two exact e true f h = record { long = l refl; within = f refl }
-    go true true l two exact e false f h = absurd (false≢true h)
-    go true false l true true e true f h = record { long = (let x = e refl in omega arith); within = f refl }
-    go true false l true true e false f h = absurd (false≢true h)
-    go true false l true false e fits f h = absurd (false≢true h)
-    go true false l false exact e fits f h = absurd (false≢true h)
-    go false long l true true e true f h = record { long = (let x = e refl in omega arith); within = f refl }
-    go false long l true true e false f h = absurd (false≢true h)
-    go false long l true false e fits f h = absurd (false≢true h)
-    go false long l false exact e fits f h = absurd (false≢true h)
+whole bytes h = record { long = grind arith; within = grind arith }
 
 pub lines_none : (most : ℕ) (bytes : List ℕ) → is_whole bytes ≡ false → record_lines most bytes ≡ []
 unfolding record_lines
@@ -112,8 +77,8 @@ fewer_left before bytes now rest l h = go l.most l.enough l.lines
         record { most = most; enough = omega arith; room = omega arith; lines = append_assoc now line (record_lines most (drop n rest)) ∙ rw (lines_more most rest h) at is }
 
 -- no more is whole
-pub none_left : (before bytes now rest : List ℕ) → Left before bytes now rest → is_whole rest ≡ false
+pub none_left : {before bytes now rest : List ℕ} → Left before bytes now rest → is_whole rest ≡ false
     → (now ≡ before ++ record_lines 256 bytes) × (length now ≤ length before + 3 * length bytes)
-none_left before bytes now rest l h =
+none_left {now = now} {rest = rest} l h =
     let room = l.room in
     (sym (append-nil now) ∙ rw (lines_none l.most rest h) at l.lines, omega arith)

@@ -8,17 +8,17 @@ use Rattle.lister.specs.declared.text.Number.TheVariants.{Plain, Signed}
 use Rattle.lister.specs.declared.records.Kind.{Kind}
 use Rattle.lister.specs.declared.records.Kind.TheVariants.{Text, Rule}
 
--- a number, as a listing keeps it
-abbrev pub kept : Number → ℕ
-kept (Plain n) = n + middle
-kept (Signed (pos n)) = n + middle
-kept (Signed (negsuc n)) = middle - suc n
+-- a number of a listing, as the rules keep it
+abbrev pub plus_middle : Number → ℕ
+plus_middle (Plain n) = n + middle
+plus_middle (Signed (pos n)) = n + middle
+plus_middle (Signed (negsuc n)) = middle - suc n
 
 -- the kind of a record, a text's or another
 abbrev pub kind_of : List ℕ → Kind
 kind_of r = if eqb (little_at r 2) 1 then Text else Rule
 
--- what an END line prints has two bytes, and what a REFUSED line prints
+-- each number of an END line has two bytes, and each of a REFUSED line
 pub record EndFits (r : Interpreted) : Type 0 where
   pub i : r.state.at.i < 65536
   pub b : r.state.at.b < 65536

@@ -13,6 +13,7 @@ pub fn read_part<R: Read>(input: &mut R, part: &mut [u8]) -> io::Result<usize>
     ensures failed { OnErr result ((n : ℕ) × (n < length part.new) × Consumes (R.remaining input.old) (R.remaining input.new) (take n part.new)) }
     ensures len { length part.new ≡ length part.old }
 {
+    // It counts what is answered: `read_exact` says no count, and `read_to_end` takes a heap.
     let mut done: usize = 0;
     while done < part.len() {
         let n = input.read(&mut part[done..])?;

@@ -1,20 +1,20 @@
 // The listing of one part.
 ghost use Rattle.std.specs.Prelude.{◌≡◌, ◌+◌, ◌<◌, ◌≤◌, ◌++◌, length, take};
 ghost use Rattle.lister.specs.Listing.{position as position_number, part_line, end_line, refused_line, listing};
-ghost use Rattle.lister.specs.Code.{kept, EndFits, RefusedFits};
+ghost use Rattle.lister.specs.Code.{plus_middle, EndFits, RefusedFits};
 
 use super::text::{Listing, Number};
 use part::numbers::ORIGIN;
 use part::shapes::Interpreted;
 use part::sheet::{on_sheet, sheet_state};
 
-// The code of a part that was interpreted to its end; any other refuses it.
+// The code of a part that was interpreted to its end; any other refuses it. C has codes as numbers, in `Answer`.
 const DONE: u32 = 0;
 
 // A position of a state.
 fn position(p: u32) -> Number
     requires { p < 65536 }
-    ensures { kept result ≡ position_number p }
+    ensures { plus_middle result ≡ position_number p }
 {
     Number::Signed((p as i32 - ORIGIN as i32) as i16)
 }
@@ -62,25 +62,26 @@ fn listed(part: &[u8], increment: u32) -> Listing
 {
     let mut area = [0u8; 4096];
     let r = on_sheet(part, 144, increment, &mut area, sheet_state(increment));
-    let mut text = Listing::new();
-    text.part(part.len());
+    let mut listing = Listing::new();
+    listing.part(part.len());
     if r.answer.code != DONE {
-        text.refused(r);
-        return text;
+        listing.refused(r);
+        return listing;
     }
-    text.records(&area[..r.state.used as usize]);
-    text.end(r);
-    text
+    listing.records(&area[..r.state.used as usize]);
+    listing.end(r);
+    listing
 }
 
 // Lists a part that was read, into a buffer that holds every listing, and answers how many bytes that are.
+// The buffer and its length stay two: docs/READING.md names this contract.
 pub fn list(part: &[u8], increment: u32, out: &mut [u8]) -> usize
     requires { (length part.now ≤ 8193) × (16384 ≤ length out.old) }
     ensures within { (result ≤ length out.new) × (result ≡ length (take result out.new)) }
     ensures listed { take result out.new ≡ listing increment part.now }
 {
-    let text = listed(part, increment);
-    let text = text.as_slice();
+    let listing = listed(part, increment);
+    let text = listing.as_slice();
     let n = text.len();
     out[..n].copy_from_slice(text);
     n

@@ -1,7 +1,7 @@
 // Records as lines.
 ghost use Rattle.std.specs.Prelude.{◌≡◌, ◌+◌, ◌*◌, ◌≤◌, ◌++◌, ◌∷◌, [], length, map};
 ghost use Rattle.lister.specs.Listing.{plain_at, signed_at, record_line, record_lines};
-ghost use Rattle.lister.specs.Code.{kept, kind_of};
+ghost use Rattle.lister.specs.Code.{plus_middle, kind_of};
 
 use super::text::{Listing, Number};
 use part::whole::{is_whole, little_at};
@@ -27,21 +27,21 @@ impl Kind {
 
 // Two bytes of a record.
 fn plain_at(r: &[u8], k: u32) -> Number
-    ensures { kept result ≡ plain_at r.now k }
+    ensures { plus_middle result ≡ plain_at r.now k }
 {
     Number::Plain(little_at(r, k) as u16)
 }
 
 // The same with a sign.
 fn signed_at(r: &[u8], k: u32) -> Number
-    ensures { kept result ≡ signed_at r.now k }
+    ensures { plus_middle result ≡ signed_at r.now k }
 {
     Number::Signed((little_at(r, k) as u16).cast_signed())
 }
 
 // I, B, font and colour of a text, or I, B, 0 or 1 and colour of a rule; what the kind has fifth; variable space or width.
 fn numbers(r: &[u8], fifth: Number) -> [Number; 6]
-    ensures { map kept result ≡ signed_at r.now 4 ∷ signed_at r.now 6 ∷ plain_at r.now 8 ∷ plain_at r.now 10 ∷ kept fifth ∷ plain_at r.now 14 ∷ [] }
+    ensures { map plus_middle result ≡ signed_at r.now 4 ∷ signed_at r.now 6 ∷ plain_at r.now 8 ∷ plain_at r.now 10 ∷ plus_middle fifth ∷ plain_at r.now 14 ∷ [] }
 {
     [
         signed_at(r, 4),

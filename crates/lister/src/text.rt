@@ -1,7 +1,7 @@
 // The text of a listing as far as it has come, in ASCII: each method puts its own behind it.
 ghost use Rattle.std.specs.Prelude.{◌≡◌, ℕ, ◌+◌, ◌*◌, ◌≤◌, ◌<◌, ◌++◌, List, [], length, map};
 ghost use Rattle.lister.specs.Lines.{numeral, numbers, hex_digit, hex_bytes, line_of, characters_in_hex};
-ghost use Rattle.lister.specs.Code.{kept};
+ghost use Rattle.lister.specs.Code.{plus_middle};
 
 use arrayvec::ArrayVec;
 use itoa::Buffer;
@@ -30,7 +30,7 @@ impl Model for Listing {
 }
 
 impl Listing {
-    // Of nothing so far.
+    // No text yet.
     pub fn new() -> Self
         ensures { result ≡ [] }
     {
@@ -58,7 +58,7 @@ impl Listing {
     // A number, with a minus where it is negative.
     fn number(&mut self, n: Number)
         requires { length self.old + 6 ≤ 16384 }
-        ensures { self.new ≡ self.old ++ numeral (kept n) }
+        ensures { self.new ≡ self.old ++ numeral (plus_middle n) }
     {
         let mut digits = Buffer::new();
         match n {
@@ -70,7 +70,7 @@ impl Listing {
     // Numbers, a space before each.
     fn numbers(&mut self, ns: &[Number])
         requires { length self.old + 7 * length ns.now ≤ 16384 }
-        ensures { self.new ≡ self.old ++ numbers (map kept ns.now) }
+        ensures { self.new ≡ self.old ++ numbers (map plus_middle ns.now) }
     {
         for n in ns {
             self.put(b" ");
@@ -91,7 +91,7 @@ impl Listing {
     // A word and numbers.
     pub fn fields(&mut self, word: &[u8], ns: &[Number])
         requires { length self.old + length word.now + 7 * length ns.now ≤ 16384 }
-        ensures { self.new ≡ self.old ++ (word.now ++ numbers (map kept ns.now)) }
+        ensures { self.new ≡ self.old ++ (word.now ++ numbers (map plus_middle ns.now)) }
     {
         self.put(word);
         self.numbers(ns);
@@ -100,7 +100,7 @@ impl Listing {
     // A word and numbers, and the end of the line.
     pub fn line(&mut self, word: &[u8], ns: &[Number])
         requires { length self.old + length word.now + 7 * length ns.now + 1 ≤ 16384 }
-        ensures { self.new ≡ self.old ++ line_of word.now (map kept ns.now) }
+        ensures { self.new ≡ self.old ++ line_of word.now (map plus_middle ns.now) }
     {
         self.fields(word, ns);
         self.put(b"\n");
@@ -117,7 +117,7 @@ impl Listing {
     }
 }
 
-// The digit of a number below 16. `{:02X}` prints to a writer that may fail, and `list` can't; the kit's hex has small letters alone.
+// The digit of a number below 16. `write!` ensures nothing of success, so with `{:02X}` `list` could fail; the kit's hex has capitals on the heap alone.
 fn hex_digit(n: u8) -> u8
     requires { n < 16 }
     ensures { result ≡ hex_digit n }

@@ -6,12 +6,12 @@ use Rattle.lister.proofs.list.listed.Goals as goal
 pub refused-requires : goal.refused-requires
 refused-requires c =
     let a = alone c.sheet_state.ensures c.on_sheet-r.ensures.value c.on_sheet-r.ensures.area_after in
-    (its_refusal_fits a c.requires, rw (c.part.ensures, c.new-text.ensures) (omega (arith, part_short (length c.args.part.now))))
+    (its_refusal_fits a c.requires, rw (c.part.ensures, c.new-listing.ensures) (omega (arith, part_short (length c.args.part.now))))
 
 pub returns-then-r-ne-DONE : goal.returns-then-r-ne-DONE
 returns-then-r-ne-DONE c =
     let a = alone c.sheet_state.ensures c.on_sheet-r.ensures.value c.on_sheet-r.ensures.area_after in
-    rw (c.part.ensures, c.new-text.ensures) at c.refused.ensures ∙ listed_refused a c.if-r-ne-DONE.true
+    rw (c.part.ensures, c.new-listing.ensures) at c.refused.ensures ∙ listed_refused a c.if-r-ne-DONE.true
 
 pub slice_bounds-area-end : goal.slice_bounds-area-end
 slice_bounds-area-end c =
@@ -27,16 +27,16 @@ pub records-requires : goal.records-requires
 records-requires c =
     let a = alone c.sheet_state.ensures c.on_sheet-r.ensures.value c.on_sheet-r.ensures.area_after in
     let fits = records_fit a c.if-r-ne-DONE.false in
-    rw (records_long a c.if-r-ne-DONE.false, c.part.ensures, c.new-text.ensures) (fits, omega (arith, part_short (length c.args.part.now)))
+    rw (records_long a c.if-r-ne-DONE.false, c.part.ensures, c.new-listing.ensures) (fits, omega (arith, part_short (length c.args.part.now)))
 
 pub end-requires : goal.end-requires
 end-requires c =
     let a = alone c.sheet_state.ensures c.on_sheet-r.ensures.value c.on_sheet-r.ensures.area_after in
     let fits = records_fit a c.if-r-ne-DONE.false in
-    let short = rw (records_long a c.if-r-ne-DONE.false, c.part.ensures, c.new-text.ensures) at c.records.ensures.short in
+    let short = rw (records_long a c.if-r-ne-DONE.false, c.part.ensures, c.new-listing.ensures) at c.records.ensures.short in
     (its_end_fits a c.requires c.if-r-ne-DONE.false, omega (arith, part_short (length c.args.part.now)))
 
 pub returns : goal.returns
 returns c =
     let a = alone c.sheet_state.ensures c.on_sheet-r.ensures.value c.on_sheet-r.ensures.area_after in
-    rw (c.records.ensures.lines, c.part.ensures, c.new-text.ensures) at c.end.ensures ∙ listed_done a c.if-r-ne-DONE.false
+    rw (c.records.ensures.lines, c.part.ensures, c.new-listing.ensures) at c.end.ensures ∙ listed_done a c.if-r-ne-DONE.false
