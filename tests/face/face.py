@@ -129,18 +129,21 @@ class Crate:
         return ending(words, at)
 
     def _methods(self, path, words, at):
-        """A type's methods can be named where it can; so its block stands in its own module, below it."""
+        """A type's methods can be named where it can; so its block stands in its own module, below it. What a trait's block has needs no name: it can be
+        called where the type can be named, and always where the type is of another module."""
         start = words.index('{', at)
-        name, end = re.sub('<.*?>', '', ''.join(words[at + 1:start])), past(words, start)
-        if (path, name) not in self.types:
+        head, end = words[at + 1:start], past(words, start)
+        trait = 'for' in head
+        name = re.sub('<.*?>', '', ''.join(head[head.index('for') + 1:] if trait else head))
+        if (path, name) not in self.types and not trait:
             raise Unread(f'{self._called(path)}: impl {name}, a type of another module')
-        public, at = False, start + 1
+        named, public, at = self.types.get((path, name), True), trait, start + 1
         while at < end - 1:
             if words[at] == 'fn':
-                at = self._function(path, words, at, public and self.types[path, name], f'{name}::')
-                public = False
+                at = self._function(path, words, at, public and named, f'{name}::')
+                public = trait
             else:
-                public = words[at] == 'pub' and words[at + 1] != '(' or public and words[at] in {*BETWEEN, 'const'}
+                public = trait or words[at] == 'pub' and words[at + 1] != '(' or public and words[at] in {*BETWEEN, 'const'}
                 at += 1
         return end
 

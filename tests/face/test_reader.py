@@ -63,6 +63,17 @@ class Methods(unittest.TestCase):
     def test_methods_in_a_private_module_do_not(self):
         self.assertEqual(read(lib='mod a;', a='pub struct S { n: u32 }\nimpl S { pub fn m() {} }'), [])
 
+    def test_methods_of_a_trait_count_where_their_type_does(self):
+        block = 'impl<const N: usize> From<u8> for S<N> {\n    ghost from_gives = { λ n s. s.n ≡ n };\n    type E = u8;\n    fn from(n: u8) -> S<N> requires { P } { S { n } }\n    fn of() {}\n}'
+        self.assertEqual(read(lib='pub struct S<const N: usize> { n: u8 }\n' + block), ['lib S::from!', 'lib S::of'])
+        self.assertEqual(read(lib='struct S<const N: usize> { n: u8 }\n' + block), [])
+
+    def test_methods_of_a_trait_for_a_type_of_another_module_count(self):
+        self.assertEqual(read(lib="impl<'a> From<u8> for T<'a> { fn from(n: u8) -> T<'a> { T { n } } }"), ['lib T::from'])
+
+    def test_a_model_has_no_method(self):
+        self.assertEqual(read(lib='pub struct S { n: u8 }\nimpl Model for S { ghost Value = { ℕ }; ghost view = { λ s. s.n }; }'), [])
+
 
 class Others(unittest.TestCase):
     def test_what_is_no_function_is_passed_over(self):
