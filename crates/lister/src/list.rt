@@ -3,6 +3,7 @@ ghost use Rattle.std.specs.Prelude.{◌≡◌, ◌+◌, ◌<◌, ◌≤◌, ◌+
 ghost use Rattle.lister.specs.Listing.{position as position_number, part_line, end_line, refused_line, listing};
 ghost use Rattle.lister.specs.Code.{plus_middle, EndFits, RefusedFits};
 
+use super::records::put_records;
 use super::text::{Listing, Number};
 use part::numbers::ORIGIN;
 use part::shapes::Interpreted;
@@ -19,40 +20,38 @@ fn position(p: u32) -> Number
     Number::Signed((p as i32 - ORIGIN as i32) as i16)
 }
 
-impl Listing {
-    // How many bytes were read.
-    fn part(&mut self, n: usize)
-        requires { (n ≤ 8193) × (length self.old + 12 ≤ 16384) }
-        ensures { self.new ≡ self.old ++ part_line n }
-    {
-        self.line(b"PART", &[Number::Plain(n as u16)]);
-    }
+// How many bytes were read.
+fn put_part(out: &mut Listing, n: usize)
+    requires { (n ≤ 8193) × (length out.old + 12 ≤ 16384) }
+    ensures { out.new ≡ out.old ++ part_line n }
+{
+    out.line(b"PART", &[Number::Plain(n as u16)]);
+}
 
-    // Where the part ended, its elements and its record bytes.
-    fn end(&mut self, r: Interpreted)
-        requires { EndFits r × (length self.old + 32 ≤ 16384) }
-        ensures { self.new ≡ self.old ++ end_line r }
-    {
-        let ns = [
-            position(r.state.at.i),
-            position(r.state.at.b),
-            Number::Plain(r.answer.first as u16),
-            Number::Plain(r.answer.second as u16),
-        ];
-        self.line(b"END", &ns);
-    }
+// Where the part ended, its elements and its record bytes.
+fn put_end(out: &mut Listing, r: Interpreted)
+    requires { EndFits r × (length out.old + 32 ≤ 16384) }
+    ensures { out.new ≡ out.old ++ end_line r }
+{
+    let ns = [
+        position(r.state.at.i),
+        position(r.state.at.b),
+        Number::Plain(r.answer.first as u16),
+        Number::Plain(r.answer.second as u16),
+    ];
+    out.line(b"END", &ns);
+}
 
-    // A refusal's code and offset.
-    fn refused(&mut self, r: Interpreted)
-        requires { RefusedFits r × (length self.old + 22 ≤ 16384) }
-        ensures { self.new ≡ self.old ++ refused_line r }
-    {
-        let ns = [
-            Number::Plain(r.answer.code as u16),
-            Number::Plain(r.answer.first as u16),
-        ];
-        self.line(b"REFUSED", &ns);
-    }
+// A refusal's code and offset.
+fn put_refused(out: &mut Listing, r: Interpreted)
+    requires { RefusedFits r × (length out.old + 22 ≤ 16384) }
+    ensures { out.new ≡ out.old ++ refused_line r }
+{
+    let ns = [
+        Number::Plain(r.answer.code as u16),
+        Number::Plain(r.answer.first as u16),
+    ];
+    out.line(b"REFUSED", &ns);
 }
 
 // The listing of a part that was read.
@@ -63,13 +62,13 @@ fn listed(part: &[u8], increment: u32) -> Listing
     let mut area = [0u8; 4096];
     let r = on_sheet(part, 144, increment, &mut area, sheet_state(increment));
     let mut listing = Listing::new();
-    listing.part(part.len());
+    put_part(&mut listing, part.len());
     if r.answer.code != DONE {
-        listing.refused(r);
+        put_refused(&mut listing, r);
         return listing;
     }
-    listing.records(&area[..r.state.used as usize]);
-    listing.end(r);
+    put_records(&mut listing, &area[..r.state.used as usize]);
+    put_end(&mut listing, r);
     listing
 }
 

@@ -53,32 +53,30 @@ fn numbers(r: &[u8], fifth: Number) -> [Number; 6]
     ]
 }
 
-impl Listing {
-    // A record's line: of a text its numbers and its characters, of a rule its numbers.
-    fn record(&mut self, r: &[u8])
-        requires { (16 ≤ length r.now) × (length self.old + 3 * length r.now ≤ 16384) }
-        ensures { self.new ≡ self.old ++ record_line r.now }
-    {
-        match Kind::of(r) {
-            Kind::Text => {
-                self.fields(b"T", &numbers(r, signed_at(r, 12)));
-                self.characters(&r[16..]);
-            }
-            Kind::Rule => self.line(b"R", &numbers(r, plain_at(r, 12))),
+// A record's line: of a text its numbers and its characters, of a rule its numbers.
+fn put_record(out: &mut Listing, r: &[u8])
+    requires { (16 ≤ length r.now) × (length out.old + 3 * length r.now ≤ 16384) }
+    ensures { out.new ≡ out.old ++ record_line r.now }
+{
+    match Kind::of(r) {
+        Kind::Text => {
+            out.fields(b"T", &numbers(r, signed_at(r, 12)));
+            out.characters(&r[16..]);
         }
+        Kind::Rule => out.line(b"R", &numbers(r, plain_at(r, 12))),
     }
+}
 
-    // The lines of some records, as long as they are whole.
-    pub fn records(&mut self, bytes: &[u8])
-        requires { (length bytes.now ≤ 4096) × (length self.old + 3 * length bytes.now ≤ 16384) }
-        ensures lines { self.new ≡ self.old ++ record_lines 256 bytes.now }
-        ensures short { length self.new ≤ length self.old + 3 * length bytes.now }
-    {
-        let mut rest = bytes;
-        while is_whole(rest) {
-            let (record, later) = rest.split_at(little_at(rest, 0) as usize);
-            self.record(record);
-            rest = later;
-        }
+// The lines of some records, as long as they are whole.
+pub fn put_records(out: &mut Listing, bytes: &[u8])
+    requires { (length bytes.now ≤ 4096) × (length out.old + 3 * length bytes.now ≤ 16384) }
+    ensures lines { out.new ≡ out.old ++ record_lines 256 bytes.now }
+    ensures short { length out.new ≤ length out.old + 3 * length bytes.now }
+{
+    let mut rest = bytes;
+    while is_whole(rest) {
+        let (record, later) = rest.split_at(little_at(rest, 0) as usize);
+        put_record(out, record);
+        rest = later;
     }
 }

@@ -3,40 +3,40 @@ use Rattle.std.proofs.Common.{length, sym, ◌∙◌, arith}
 use Rattle.lister.proofs.Listed.{alone, part_short, records_fit, area_long, records_long, its_refusal_fits, its_end_fits, listed_refused, listed_done}
 use Rattle.lister.proofs.list.listed.Goals as goal
 
-pub refused-requires : goal.refused-requires
-refused-requires c =
+pub put_refused-requires : goal.put_refused-requires
+put_refused-requires c =
     let a = alone c.sheet_state.ensures c.on_sheet-r.ensures.value c.on_sheet-r.ensures.area_after in
-    (its_refusal_fits a c.requires, rw (c.part.ensures, c.new-listing.ensures) (omega (arith, part_short (length c.args.part.now))))
+    (its_refusal_fits a c.requires, rw (c.put_part.ensures, c.new-listing.ensures) (omega (arith, part_short (length c.args.part.now))))
 
 pub returns-then-r-ne-DONE : goal.returns-then-r-ne-DONE
 returns-then-r-ne-DONE c =
     let a = alone c.sheet_state.ensures c.on_sheet-r.ensures.value c.on_sheet-r.ensures.area_after in
-    rw (c.part.ensures, c.new-listing.ensures) at c.refused.ensures ∙ listed_refused a c.if-r-ne-DONE.true
+    rw (c.put_part.ensures, c.new-listing.ensures) at c.put_refused.ensures ∙ listed_refused a c.if-r-ne-DONE.true
 
 pub slice_bounds-area-end : goal.slice_bounds-area-end
 slice_bounds-area-end c =
     let a = alone c.sheet_state.ensures c.on_sheet-r.ensures.value c.on_sheet-r.ensures.area_after in
     omega (arith, records_fit a c.if-r-ne-DONE.false, area_long a)
 
-pub slice_bounds-records-end : goal.slice_bounds-records-end
-slice_bounds-records-end c =
+pub slice_bounds-put_records-end : goal.slice_bounds-put_records-end
+slice_bounds-put_records-end c =
     let a = alone c.sheet_state.ensures c.on_sheet-r.ensures.value c.on_sheet-r.ensures.area_after in
     sym (records_long a c.if-r-ne-DONE.false)
 
-pub records-requires : goal.records-requires
-records-requires c =
+pub put_records-requires : goal.put_records-requires
+put_records-requires c =
     let a = alone c.sheet_state.ensures c.on_sheet-r.ensures.value c.on_sheet-r.ensures.area_after in
     let fits = records_fit a c.if-r-ne-DONE.false in
-    rw (records_long a c.if-r-ne-DONE.false, c.part.ensures, c.new-listing.ensures) (fits, omega (arith, part_short (length c.args.part.now)))
+    rw (records_long a c.if-r-ne-DONE.false, c.put_part.ensures, c.new-listing.ensures) (fits, omega (arith, part_short (length c.args.part.now)))
 
-pub end-requires : goal.end-requires
-end-requires c =
+pub put_end-requires : goal.put_end-requires
+put_end-requires c =
     let a = alone c.sheet_state.ensures c.on_sheet-r.ensures.value c.on_sheet-r.ensures.area_after in
     let fits = records_fit a c.if-r-ne-DONE.false in
-    let short = rw (records_long a c.if-r-ne-DONE.false, c.part.ensures, c.new-listing.ensures) at c.records.ensures.short in
+    let short = rw (records_long a c.if-r-ne-DONE.false, c.put_part.ensures, c.new-listing.ensures) at c.put_records.ensures.short in
     (its_end_fits a c.requires c.if-r-ne-DONE.false, omega (arith, part_short (length c.args.part.now)))
 
 pub returns : goal.returns
 returns c =
     let a = alone c.sheet_state.ensures c.on_sheet-r.ensures.value c.on_sheet-r.ensures.area_after in
-    rw (c.records.ensures.lines, c.part.ensures, c.new-listing.ensures) at c.end.ensures ∙ listed_done a c.if-r-ne-DONE.false
+    rw (c.put_records.ensures.lines, c.put_part.ensures, c.new-listing.ensures) at c.put_end.ensures ∙ listed_done a c.if-r-ne-DONE.false

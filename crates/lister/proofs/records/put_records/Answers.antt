@@ -1,10 +1,10 @@
 -- A record more, while the rest begins with a whole one.
 use Rattle.std.proofs.Common.{sym, ◌∙◌, arith}
 use Rattle.lister.proofs.Lines.{all_left, fewer_left, none_left}
-use Rattle.lister.proofs.text.Listing.records.Goals as goal
+use Rattle.lister.proofs.records.put_records.Goals as goal
 
 pub loop-rest-init : goal.loop-rest-init
-loop-rest-init c = all_left c.args.self.now c.args.bytes.now c.requires.0
+loop-rest-init c = all_left c.args.out.now c.args.bytes.now c.requires.0
 
 pub loop-rest-preserved : goal.loop-rest-preserved
 loop-rest-preserved c = grind (arith, fewer_left)

@@ -2,7 +2,7 @@
 use Rattle.std.proofs.Common.{arith, append_assoc, length-append, length-drop, take_all}
 use Rattle.lister.proofs.Digits.{numbers_short}
 use Rattle.lister.proofs.Lines.{text_is}
-use Rattle.lister.proofs.text.Listing.record.Goals as goal
+use Rattle.lister.proofs.records.put_record.Goals as goal
 
 pub characters-requires : goal.characters-requires
 characters-requires c = grind (arith, numbers_short, length-append, length-drop, take_all)
