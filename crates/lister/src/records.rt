@@ -32,7 +32,7 @@ fn plain_at(r: &[u8], k: u32) -> Number
     Number::Plain(little_at(r, k) as u16)
 }
 
-// The same with a sign.
+// The same with a sign. They stay two: the rules have `plain_at` and `signed_at`, and one with a flag is no plainer.
 fn signed_at(r: &[u8], k: u32) -> Number
     ensures { plus_middle result ≡ signed_at r.now k }
 {

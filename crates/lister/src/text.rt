@@ -47,7 +47,7 @@ impl Listing {
         self.text.as_slice()
     }
 
-    // Some characters as they are.
+    // Some characters as they are. There is room, so `unwrap` never stops.
     pub fn put(&mut self, word: &[u8])
         requires { length self.old + length word.now ≤ 16384 }
         ensures { self.new ≡ self.old ++ word.now }
