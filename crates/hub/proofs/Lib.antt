@@ -16,7 +16,7 @@ pub mod Swapping
 pub mod Rising
 pub mod Repeating
 pub mod Telling
-pub mod Coding
+pub mod Passing
 pub mod Counts
 pub mod Thin
 pub mod Trials

@@ -1,61 +1,60 @@
--- Bytes moved down in an area, some after the others: those that are still to be read were not stored over.
+-- Bytes moved down to the start of an area, some after the others: those that are still to be read were not stored over.
 -- Assumes nothing.
-use Prim.Native.Nat.{ℕ, suc, ◌+◌, ◌-◌, ◌≤◌, ◌<◌}
-use mathlib.Core.Path.{◌≡◌, refl, sym, ◌∙◌, ap}
-use mathlib.Core.List.{List, [], ◌∷◌, ◌++◌, append-nil}
-use native.Mathlib.Omega.{arith}
-use lib.ListN.{length, get_or, take, drop, set, length-drop, length-take, drop_of_length-le}
-use lib.Seq.{sets, sets-eq, drop-set-lt, drop-drop, get_or-drop}
-use Rattle.part.specs.Reading.{between}
-use Rattle.part.proofs.Stores.{one_more, some_more}
+use Rattle.std.proofs.Common.{ℕ, ◌≡◌, ◌+◌, ◌-◌, ◌≤◌, List, ◌++◌, length, take, drop, sym, ap, ◌∙◌, arith, length-drop}
+use Rattle.std.proofs.lemmas.Slice.{put_mid-paste}
+use borrow.Rule.Slice.PartMut.{put_mid}
+use lib.Seq.{paste, take-take, take-add, take_at, drop_at, drop-drop, length-take-le}
+use native.Mathlib.Nat.{le_refl}
 use Rattle.hub.specs.Requests.{moved_down}
-use Rattle.hub.proofs.Bytes.{between-fits}
 
--- as many as there are
-pub all_set : (l xs : List ℕ) → length xs ≡ length l → sets l 0 xs ≡ xs
-all_set l xs same =
-    let none = drop_of_length-le l {i = 0 + length xs} (omega arith) in
-    sets-eq xs l 0 (omega arith) ∙ ap (λ (t : List ℕ). xs ++ t) none ∙ append-nil xs
+-- some bytes read behind a place, and stored at another
+pub stored : (area new : List ℕ) (to at n : ℕ) → at + n ≤ length area → new ≡ take (at + n - at) (drop at area) → put_mid to (to + n - to) area new ≡ paste area to (drop at area) n
+stored area new to at n fits is =
+    let read = drop at area in
+    put_mid-paste to (to + n - to) area new (take n read) n (is ∙ ap (λ (m : ℕ). take m read) (let z : at + n - at ≡ n = omega arith in z)) (omega arith)
+    (sym (length-take-le n read (omega (arith, length-drop at area))))
+    ∙ ap (λ (t : List ℕ). take to area ++ t ++ drop (to + n) area) (take-take n n read (le_refl n))
 
--- what lies behind some stores
-behind : (l xs : List ℕ) (i n : ℕ) → i + length xs ≤ n → drop n (sets l i xs) ≡ drop n l
-behind l [] i n h = refl
-behind l (x ∷ xs) i n h = behind (set l i x) xs (suc i) n (omega arith) ∙ drop-set-lt n l i x (omega arith)
-
-module _ (area : List ℕ) (onto first : ℕ) (down : onto ≤ first) where
+module _ (area : List ℕ) (from : ℕ) where
   abbrev unread : List ℕ
-  unread = drop first area
+  unread = drop from area
 
-  -- the first k of them
+  -- the first k of them at the start
   abbrev moved : ℕ → List ℕ
-  moved k = sets area onto (take k unread)
+  moved k = take k unread ++ drop k area
 
-  -- the others are there
-  others : (k : ℕ) → drop (first + k) (moved k) ≡ drop k unread
-  others k =
-      let a = length-take k unread in
-      behind area (take k unread) onto (first + k) (omega arith) ∙ sym (drop-drop k first area)
+  pub all_moved : (past : ℕ) → past ≤ length area → moved_down area from past ≡ moved (past - from)
+  all_moved past fits =
+      ap (λ (m : ℕ). take (past - from) unread ++ drop m area)
+      (let z : 0 + length (take (past - from) unread) ≡ past - from = omega (arith, length-take-le (past - from) unread (omega (arith, length-drop from area))) in z)
 
-  -- one more
-  pub move_one : (k : ℕ) → first + k < length area → set (moved k) (onto + k) (get_or (moved k) (first + k) 0) ≡ moved (k + 1)
-  move_one k h =
-      let long = length-drop first area in
-      let there : get_or (moved k) (first + k) 0 ≡ get_or unread k 0 =
-      ap (λ (n : ℕ). get_or (moved k) n 0) (let z : first + k ≡ first + k + 0 = omega arith in z)
-      ∙ sym (get_or-drop (first + k) (moved k) 0 0)
-      ∙ ap (λ (t : List ℕ). get_or t 0 0) (others k)
-      ∙ get_or-drop k unread 0 0
-      ∙ ap (λ (n : ℕ). get_or unread n 0) (let z : k + 0 ≡ k = omega arith in z)
-      in
-      ap (set (moved k) (onto + k)) there ∙ one_more area onto unread k (omega arith)
+  pub none_moved : from ≤ length area → moved_down area from from ≡ area
+  none_moved fits = all_moved from fits ∙ ap moved (let z : from - from ≡ 0 = omega arith in z)
 
-  -- some more
-  pub move_some : (k n : ℕ) (was now : List ℕ) → first + k ≤ length area → was ≡ moved k → now ≡ sets was (onto + k) (take n (drop (first + k) was)) → now ≡ moved (k + n)
-  move_some k n was now h before is =
-      let long = length-drop first area in
-      some_more area onto unread k n was now (omega arith) before
-      (is ∙ ap (λ (t : List ℕ). sets was (onto + k) (take n (drop (first + k) t))) before ∙ ap (λ (t : List ℕ). sets was (onto + k) (take n t)) (others k))
+  module _ (at n : ℕ) (low : from ≤ at) (fits : at + n ≤ length area) where
+    abbrev k : ℕ
+    k = at - from
 
--- all of them, to the start
-pub all_moved : (area : List ℕ) (first past : ℕ) → sets area 0 (take (past - first) (drop first area)) ≡ moved_down area first past
-all_moved area first past = sets-eq (between area first past) area 0 (between-fits area first past)
+    long : length (take k unread) ≡ k
+    long = length-take-le k unread (omega (arith, length-drop from area))
+
+    -- what lies behind them is as it was
+    behind : (i : ℕ) → drop (k + i) (moved k) ≡ drop (k + i) area
+    behind i = sym (drop-drop i k (moved k)) ∙ ap (drop i) (drop_at (take k unread) (drop k area) k long) ∙ drop-drop i k area
+
+    others : drop at (moved k) ≡ drop k unread
+    others =
+        ap (λ (j : ℕ). drop j (moved k)) (let z : at ≡ k + from = omega arith in z)
+        ∙ behind from
+        ∙ ap (λ (j : ℕ). drop j area) (let z : k + from ≡ from + k = omega arith in z)
+        ∙ sym (drop-drop k from area)
+
+    -- some more
+    pub moved_more : paste (moved_down area from at) k (drop at (moved_down area from at)) n ≡ moved_down area from (at + n)
+    moved_more =
+        rw (all_moved at (omega arith), all_moved (at + n) fits)
+        (ap (λ (t : List ℕ). t ++ take n (drop at (moved k)) ++ drop (k + n) (moved k)) (take_at (take k unread) (drop k area) k long)
+        ∙ ap (λ (t : List ℕ). take k unread ++ take n t ++ drop (k + n) (moved k)) others
+        ∙ ap (λ (t : List ℕ). take k unread ++ take n (drop k unread) ++ t) (behind n)
+        ∙ ap (λ (t : List ℕ). t ++ drop (k + n) area) (sym (take-add k n unread))
+        ∙ ap moved (let z : k + n ≡ at + n - from = omega arith in z))

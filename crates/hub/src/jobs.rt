@@ -13,7 +13,7 @@ pub struct Entry {
     pub taken: u32,
 }
 
-// A request's entry afterwards, and its answer.
+// A request's entry afterwards, and its answer: what the rules say of it, as `Requests.opening`. The code changes the entry in place.
 #[repr(C)]
 #[derive(Clone, Copy)]
 pub struct Out {

@@ -4,6 +4,7 @@
 mod drain;
 mod entries;
 pub mod jobs;
+mod refusal;
 mod submit;
 pub mod table;
 mod take;

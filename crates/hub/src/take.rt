@@ -1,73 +1,55 @@
-// The request that takes records out of a job's area: the entry by value, and the record buffer lent.
-ghost use Rattle.std.specs.Prelude.{◌≡◌, ◌≤◌, ◌<◌, length};
-ghost use Rattle.hub.specs.Requests.{may_take, taking, area_left, draining, area_of};
-ghost use Rattle.hub.specs.Code.{coded};
+// The request that takes records out of a job's area: the entry, and the area of its slot.
+ghost use Rattle.std.specs.Prelude.{◌≡◌, length};
+ghost use Rattle.hub.specs.Entries.{all_written};
+ghost use Rattle.hub.specs.Requests.{may_take, taking, area_left};
+ghost use Rattle.hub.specs.Code.{checked, answered};
 
 use super::drain::{meets, move_down};
-use super::entries::{DONE, is_damaged, is_open_under, refused};
-use super::jobs::{Entry, Out};
-use part::numbers::wide;
+use super::entries::DONE;
+use super::jobs::Entry;
+use super::refusal::{Refusal, require};
+use part::shapes::Answer;
 
-// A take's checks: 12, 16, 1, 30; 0 where all pass.
-fn may_take(e: Entry, area: &[u8], key: u32, total: u64) -> u32
-    requires { length area.now ≡ 4096 }
-    ensures { coded result ≡ may_take key total area.now e }
-{
-    if is_damaged(e) {
-        return 12;
+impl Entry {
+    // The record bytes that were written since the job was opened.
+    fn all_written(&self) -> u64
+        ensures { result ≡ all_written self.now }
+    {
+        self.taken as u64 + self.state.used as u64
     }
-    if !is_open_under(e, key) {
-        return 16;
-    }
-    let taken = e.taken as u64;
-    if total <= taken {
-        return 1;
-    }
-    if total > 4294967295 {
-        return 30;
-    }
-    let more = (total - taken) as usize;
-    let used = wide(e.state.used);
-    if used < more {
-        return 30;
-    }
-    if !meets(&area[..used], more) {
-        return 30;
-    }
-    0
-}
 
-// Takes records out of the area, and notes in the entry how many bytes were taken.
-pub fn take_entry(e: Entry, area: &mut [u8], key: u32, total: u64) -> Out
-    requires { length area.old ≡ 4096 }
-    ensures value { result ≡ taking key total area.old e }
-    ensures area_after { area.new ≡ area_left key total area.old e }
-{
-    let code = may_take(e, &area[..], key, total);
-    if code != 0 {
-        return refused(e, code);
+    // A take's checks, in their order.
+    #[tactic(auto, unfolding(crate::specs::Requests::may_take))]
+    fn may_take(&self, area: &[u8], key: u32, total: u64) -> Result<(), Refusal>
+        requires { length area.now ≡ 4096 }
+        ensures { checked result ≡ may_take key total area.now self.now }
+    {
+        let taken = self.taken as u64;
+        require(!self.is_damaged(), Refusal::Damaged)?;
+        require(self.is_open_under(key), Refusal::NoJob)?;
+        require(taken < total, Refusal::AlreadyTaken)?;
+        require(total <= 4294967295, Refusal::BadTotal)?;
+        require(total <= self.all_written(), Refusal::BadTotal)?;
+        let used = self.state.used as usize;
+        require(
+            meets(&area[..used], (total - taken) as usize),
+            Refusal::BadTotal,
+        )
     }
-    let more = (total - e.taken as u64) as usize;
-    let used = wide(e.state.used);
-    move_down(area, more, used);
-    let mut n = e;
-    let left = (used - more) as u32;
-    let taken = total as u32;
-    n.state.used = left;
-    n.taken = taken;
-    Out {
-        entry: n,
-        answer: DONE,
-    }
-}
 
-// Lends the entry's slot its own 4,096 bytes of the record buffer.
-pub fn take_slot(e: Entry, records: &mut [u8], slot: u32, key: u32, total: u64) -> Out
-    requires { (slot < 16) × (length records.old ≡ 65536) }
-    ensures { (result ≡ taking key total (area_of records.old slot) e)
-        × (records.new ≡ draining records.old slot key total e) }
-{
-    let from = 4096 * slot as usize;
-    let to = from + 4096;
-    take_entry(e, &mut records[from..to], key, total)
+    // Takes records out of the area, and notes how many bytes were taken.
+    #[tactic(auto, using(crate::proofs::Passing::takes), unfolding(crate::specs::Requests::taking, crate::specs::Requests::area_left))]
+    pub fn take(&mut self, area: &mut [u8], key: u32, total: u64) -> Result<Answer, Refusal>
+        requires { length area.old ≡ 4096 }
+        ensures entry { self.new ≡ (taking key total area.old self.old).entry }
+        ensures answer { answered result ≡ (taking key total area.old self.old).answer }
+        ensures area_after { area.new ≡ area_left key total area.old self.old }
+    {
+        self.may_take(area, key, total)?;
+        let more = (total - self.taken as u64) as usize;
+        move_down(area, more, self.state.used as usize);
+        self.state.used = (self.all_written() - total) as u32;
+        self.taken = total as u32;
+        Ok(DONE)
+    }
 }

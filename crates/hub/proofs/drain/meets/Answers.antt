@@ -1,10 +1,8 @@
 -- `hub::drain::meets` meets its contract. The invariant: the place is met just when it is from here on.
-use Prim.Native.Nat.{◌+◌, ◌*◌}
+use Rattle.std.proofs.Common.{◌≡◌, ◌+◌, ◌-◌, ◌*◌, true, false, ◌&&◌, length, drop, get_or, refl, sym, ◌∙◌, arith, rules}
 use Rattle.hub.proofs.Boundaries.{no_step, near_end, a_step, one_step, at_place}
 use Rattle.part.specs.Records.{boundaries}
-use lib.ListN.{length, drop, get_or}
-use mathlib.Core.Path.{refl, sym, ◌∙◌, ap}
-use native.Mathlib.Omega.{arith}
+use lib.Dec.{leb}
 use Rattle.hub.proofs.drain.meets.Goals as goal
 
 pub loop-at-init : goal.loop-at-init
@@ -17,24 +15,26 @@ returns-then-left-lt16 c =
     let l = c.loop-at in
     sym (l.invariant.1.1.1 ∙ near_end a.bytes.now a.place l.at l.invariant.0 c.loop-at-test.true l.invariant.1.0 c.if-left-lt16.true)
 
-pub returns-then-not-both : goal.returns-then-not-both
-returns-then-not-both c =
+pub returns-then-not-contains : goal.returns-then-not-contains
+returns-then-not-contains c =
     let a = c.args in
     let l = c.loop-at in
-    let far = c.loop-at-test.true in
-    let n = c.wide-n.ensures.0 ∙ ap (λ k. k + 256 * c.wide_byte-in-loop-at.result) c.wide_byte.ensures.0 ∙ ap (λ k. get_or a.bytes.now l.at 0 + 256 * k) c.wide_byte-in-loop-at.ensures.0 in
-    let said = rw n at (sym c.both.ensures ∙ c.if-not-both.true) in
-    sym (l.invariant.1.1.1 ∙ no_step a.bytes.now a.place l.at l.invariant.0 far l.invariant.1.0 said)
+    let b = a.bytes.now in
+    let n : c.from_le_bytes.result ≡ get_or b l.at 0 + 256 * get_or b (l.at + 1) 0 = omega (arith, c.from_le_bytes.ensures) in
+    let said : (leb 16 c.from_le_bytes.result && leb c.from_le_bytes.result (length b - l.at)) ≡ false = search rules in
+    sym (l.invariant.1.1.1 ∙ no_step b a.place l.at l.invariant.0 c.loop-at-test.true l.invariant.1.0 (rw n at said))
 
 pub loop-at-preserved : goal.loop-at-preserved
 loop-at-preserved c =
     let a = c.args in
     let l = c.loop-at in
+    let b = a.bytes.now in
     let far = c.loop-at-test.true in
-    let n = c.wide-n.ensures.0 ∙ ap (λ k. k + 256 * c.wide_byte-in-loop-at.result) c.wide_byte.ensures.0 ∙ ap (λ k. get_or a.bytes.now l.at 0 + 256 * k) c.wide_byte-in-loop-at.ensures.0 in
-    let said = rw n at (sym c.both.ensures ∙ c.if-not-both.false) in
-    let s = one_step a.bytes.now a.place l.at l.invariant.0 far l.invariant.1.0 l.invariant.1.1.0 said in
-    rw n ((a_step a.bytes.now a.place l.at l.invariant.0 far said).1, (s.0, (s.1, l.invariant.1.1.1 ∙ s.2)))
+    let n : c.from_le_bytes.result ≡ get_or b l.at 0 + 256 * get_or b (l.at + 1) 0 = omega (arith, c.from_le_bytes.ensures) in
+    let said : (leb 16 c.from_le_bytes.result && leb c.from_le_bytes.result (length b - l.at)) ≡ true = search rules in
+    let said' = rw n at said in
+    let s = one_step b a.place l.at l.invariant.0 far l.invariant.1.0 l.invariant.1.1.0 said' in
+    rw n ((a_step b a.place l.at l.invariant.0 far said').1, (s.0, (s.1, l.invariant.1.1.1 ∙ s.2)))
 
 pub returns : goal.returns
 returns c =

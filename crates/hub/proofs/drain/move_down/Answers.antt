@@ -1,28 +1,35 @@
--- `hub::drain::move_down` meets its contract. The invariant: the first k bytes are moved.
-use Prim.Native.Nat.{◌+◌, ◌-◌}
-use Rattle.hub.proofs.Moving.{move_some, all_moved}
-use lib.ListN.{take, drop}
-use lib.Seq.{sets}
-use mathlib.Core.Path.{◌≡◌, sym, ◌∙◌, ap}
-use native.Mathlib.Nat.{zero-add}
-use native.Mathlib.Omega.{arith}
+-- `hub::drain::move_down` meets its contract: none is moved at first, then one block more in a turn, and at last the rest.
+use Rattle.std.proofs.Common.{◌≡◌, ◌+◌, ◌-◌, ◌≤◌, length, drop, sym, ap, ◌∙◌, arith}
+use lib.Seq.{paste}
+use Rattle.hub.specs.Requests.{moved_down}
+use Rattle.hub.proofs.Bytes.{moved_length}
+use Rattle.hub.proofs.Moving.{stored, none_moved, moved_more}
 use Rattle.hub.proofs.drain.move_down.Goals as goal
 
-pub loop-k-preserved : goal.loop-k-preserved
-loop-k-preserved c =
-    let l = c.loop-k in
-    let test = c.loop-k-test.true in (
-      omega (arith, test, l.invariant.0),
-      move_some c.args.area.now 0 c.args.from (omega arith) l.k 64 l.area _ (omega (arith, c.requires.0, c.requires.1, l.invariant.0)) l.invariant.1
-          (c.move_block.ensures ∙ ap (λ k. sets l.area k (take 64 (drop (c.args.from + l.k) l.area))) (sym (zero-add l.k))),
-    )
+pub loop-at-init : goal.loop-at-init
+loop-at-init c = record { from_on = omega arith; to_most = omega arith; moved = sym (none_moved c.args.area.now c.args.from (omega (arith, c.requires.0, c.requires.1))) }
+
+pub loop-at-preserved : goal.loop-at-preserved
+loop-at-preserved c =
+    let a = c.args in
+    let l = c.loop-at in
+    let k = l.at - a.from in
+    let to : l.at + 64 ≤ a.to = omega (arith, c.loop-at-test.true) in
+    let long = ap length l.invariant.moved ∙ moved_length a.area.now a.from l.at in
+    record {
+      from_on = omega arith;
+      to_most = to;
+      moved =
+          stored l.area _ k l.at 64 (omega (arith, to, long, c.requires.1)) (c.copy_from_slice-in-loop-at.ensures.after ∙ c.copy_from_slice.ensures.after)
+          ∙ ap (λ t. paste t k (drop l.at t) 64) l.invariant.moved
+          ∙ moved_more a.area.now a.from l.at 64 l.invariant.from_on (omega (arith, to, c.requires.1));
+    }
 
 pub returns : goal.returns
 returns c =
     let a = c.args in
-    let l = c.loop-k in
-    let n = a.to - a.from in
-    move_some a.area.now 0 a.from (omega arith) l.k (n - l.k) l.area _ (omega (arith, c.requires.0, c.requires.1, l.invariant.0)) l.invariant.1
-    (c.move_bytes.ensures ∙ ap (λ k. sets l.area k (take (n - l.k) (drop (a.from + l.k) l.area))) (sym (zero-add l.k)))
-    ∙ ap (λ k. sets a.area.now 0 (take k (drop a.from a.area.now))) (let z : l.k + (n - l.k) ≡ n = omega (arith, l.invariant.0) in z)
-    ∙ all_moved a.area.now a.from a.to
+    let l = c.loop-at in
+    c.copy_within.ensures.after
+    ∙ ap (λ t. paste t (l.at - a.from) (drop l.at t) (a.to - l.at)) l.invariant.moved
+    ∙ moved_more a.area.now a.from l.at (a.to - l.at) l.invariant.from_on (omega (arith, l.invariant.to_most, c.requires.1))
+    ∙ ap (moved_down a.area.now a.from) (let z : l.at + (a.to - l.at) ≡ a.to = omega (arith, l.invariant.to_most) in z)

@@ -1,25 +1,12 @@
--- `hub::table::halviruso_open` meets its contract: each way out is one of the laws of `Thin`. Written by gen_thin.py.
-use Rattle.std.proofs.Common.{eq-eqb, ne_eqb, refl}
-use Rattle.hub.specs.Requests.{hub, Open}
-use Rattle.hub.proofs.Thin.{wrong_step, above_step, taken_step, kept_step}
+-- `hub::table::halviruso_open` meets its contract: each way out is one of the laws of `Thin`.
+use Rattle.std.proofs.Common.{sym, ◌∙◌, refl}
+use Rattle.hub.proofs.Thin.{refused_step, placed_at, done_step}
 use Rattle.hub.proofs.table.halviruso_open.Goals as goal
 
-pub returns-then-table-ne16 : goal.returns-then-table-ne16
-returns-then-table-ne16 c = λ widths records.
-    let a = c.args in
-    wrong_step widths (hub a.table.now records a.open_jobs.now) (Open a.slot a.key a.d) (ne_eqb _ _ c.if-table-ne16.true)
+pub returns-in-Ok : goal.returns-in-Ok
+returns-in-Ok c = λ widths records.
+    let s = c.open.ensures in
+    done_step _ _ _ _ (placed_at _ _ _ (sym c.place.ensures ∙ c.in-Ok.is)) (s.entry, c.answer.ensures ∙ s.answer, refl, s.number)
 
-pub returns-then-slot-gt15 : goal.returns-then-slot-gt15
-returns-then-slot-gt15 c = λ widths records.
-    let a = c.args in
-    above_step widths (hub a.table.now records a.open_jobs.now) (Open a.slot a.key a.d) (eq-eqb _ _ c.if-table-ne16.false) c.if-slot-gt15.true
-
-pub returns-then-o-ne0 : goal.returns-then-o-ne0
-returns-then-o-ne0 c = λ widths records.
-    let a = c.args in
-    kept_step widths (hub a.table.now records a.open_jobs.now) (Open a.slot a.key a.d) _ c.open_entry-o.result records c.open_entry-o.new.open_jobs (eq-eqb _ _ c.if-table-ne16.false) c.if-table-ne16.false c.if-slot-gt15.false c.open_entry-o.ensures.0 refl c.open_entry-o.ensures.1 c.if-o-ne0.true
-
-pub returns : goal.returns
-returns c = λ widths records.
-    let a = c.args in
-    taken_step widths (hub a.table.now records a.open_jobs.now) (Open a.slot a.key a.d) _ c.open_entry-o.result records c.open_entry-o.new.open_jobs (eq-eqb _ _ c.if-table-ne16.false) c.if-table-ne16.false c.if-slot-gt15.false c.open_entry-o.ensures.0 refl c.open_entry-o.ensures.1
+pub returns-in-Err : goal.returns-in-Err
+returns-in-Err c = λ widths records. refused_step _ _ _ (sym c.place.ensures ∙ c.in-Err.is) c.into.ensures

@@ -1,35 +1,19 @@
--- `hub::table::halviruso_submit` meets its contract: each way out is one of the laws of `Thin`. Written by gen_thin.py.
-use Rattle.std.proofs.Common.{eq-eqb, ne_eqb, refl}
-use Rattle.hub.specs.Requests.{hub, Submit}
-use Rattle.hub.proofs.Thin.{wrong_step, above_step, taken_step, kept_step}
+-- `hub::table::halviruso_submit` meets its contract: each way out is one of the laws of `Thin`.
+use Rattle.std.proofs.Common.{sym, ap, ◌∙◌, refl}
+use Rattle.hub.specs.Requests.{hub, with_area, Submit}
+use Rattle.hub.proofs.Deciding.{here, whole}
+use Rattle.hub.proofs.Slots.{put_back}
+use Rattle.hub.proofs.Thin.{refused_step, placed_at, done_step}
 use Rattle.hub.proofs.table.halviruso_submit.Goals as goal
 
-pub returns-then-table-ne16 : goal.returns-then-table-ne16
-returns-then-table-ne16 c = λ stored.
+pub returns-in-Ok : goal.returns-in-Ok
+returns-in-Ok c = λ stored.
     let a = c.args in
-    wrong_step a.widths.now (hub a.table.now a.records.now stored) (Submit a.slot a.key a.number a.part.now) (rw (ne_eqb _ _ c.if-table-ne16.true) refl)
+    let h = hub a.table.now a.records.now stored in
+    let s = c.submit.ensures in
+    let l = placed_at a.widths.now h (Submit a.slot a.key a.number a.part.now) (sym c.place.ensures ∙ c.in-Ok.is) in
+    let put = put_back h.records a.slot (whole a.widths.now h a.slot a.key a.number a.part.now (here a.widths.now h _ l.lent l.low)) l.low c.submit.new.area c.submit.auto.area in
+    done_step a.widths.now h _ _ l (s.entry, c.answer.ensures ∙ s.answer, put ∙ ap (with_area h.records a.slot) s.area_after, refl)
 
-pub returns-then-records-ne65536 : goal.returns-then-records-ne65536
-returns-then-records-ne65536 c = λ stored.
-    let a = c.args in
-    wrong_step a.widths.now (hub a.table.now a.records.now stored) (Submit a.slot a.key a.number a.part.now) (rw (eq-eqb _ _ c.if-table-ne16.false, ne_eqb _ _ c.if-records-ne65536.true) refl)
-
-pub returns-then-widths-ne1024 : goal.returns-then-widths-ne1024
-returns-then-widths-ne1024 c = λ stored.
-    let a = c.args in
-    wrong_step a.widths.now (hub a.table.now a.records.now stored) (Submit a.slot a.key a.number a.part.now) (rw (eq-eqb _ _ c.if-table-ne16.false, eq-eqb _ _ c.if-records-ne65536.false, ne_eqb _ _ c.if-widths-ne1024.true) refl)
-
-pub returns-then-slot-gt15 : goal.returns-then-slot-gt15
-returns-then-slot-gt15 c = λ stored.
-    let a = c.args in
-    above_step a.widths.now (hub a.table.now a.records.now stored) (Submit a.slot a.key a.number a.part.now) (rw (eq-eqb _ _ c.if-table-ne16.false, eq-eqb _ _ c.if-records-ne65536.false, eq-eqb _ _ c.if-widths-ne1024.false) refl) c.if-slot-gt15.true
-
-pub returns-then-o-ne0 : goal.returns-then-o-ne0
-returns-then-o-ne0 c = λ stored.
-    let a = c.args in
-    kept_step a.widths.now (hub a.table.now a.records.now stored) (Submit a.slot a.key a.number a.part.now) _ c.submit_slot-o.result c.submit_slot-o.new.records stored (rw (eq-eqb _ _ c.if-table-ne16.false, eq-eqb _ _ c.if-records-ne65536.false, eq-eqb _ _ c.if-widths-ne1024.false) refl) c.if-table-ne16.false c.if-slot-gt15.false c.submit_slot-o.ensures.0 c.submit_slot-o.ensures.1 refl c.if-o-ne0.true
-
-pub returns : goal.returns
-returns c = λ stored.
-    let a = c.args in
-    taken_step a.widths.now (hub a.table.now a.records.now stored) (Submit a.slot a.key a.number a.part.now) _ c.submit_slot-o.result c.submit_slot-o.new.records stored (rw (eq-eqb _ _ c.if-table-ne16.false, eq-eqb _ _ c.if-records-ne65536.false, eq-eqb _ _ c.if-widths-ne1024.false) refl) c.if-table-ne16.false c.if-slot-gt15.false c.submit_slot-o.ensures.0 c.submit_slot-o.ensures.1 refl
+pub returns-in-Err : goal.returns-in-Err
+returns-in-Err c = λ stored. refused_step _ _ _ (sym c.place.ensures ∙ c.in-Err.is) c.into.ensures

@@ -1,30 +1,19 @@
--- `hub::table::halviruso_take` meets its contract: each way out is one of the laws of `Thin`. Written by gen_thin.py.
-use Rattle.std.proofs.Common.{eq-eqb, ne_eqb, refl}
-use Rattle.hub.specs.Requests.{hub, Take}
-use Rattle.hub.proofs.Thin.{wrong_step, above_step, taken_step, kept_step}
+-- `hub::table::halviruso_take` meets its contract: each way out is one of the laws of `Thin`.
+use Rattle.std.proofs.Common.{sym, ap, ◌∙◌, refl}
+use Rattle.hub.specs.Requests.{hub, with_area, Take}
+use Rattle.hub.proofs.Deciding.{here, take_whole}
+use Rattle.hub.proofs.Slots.{put_back}
+use Rattle.hub.proofs.Thin.{refused_step, placed_at, done_step}
 use Rattle.hub.proofs.table.halviruso_take.Goals as goal
 
-pub returns-then-table-ne16 : goal.returns-then-table-ne16
-returns-then-table-ne16 c = λ widths stored.
+pub returns-in-Ok : goal.returns-in-Ok
+returns-in-Ok c = λ widths stored.
     let a = c.args in
-    wrong_step widths (hub a.table.now a.records.now stored) (Take a.slot a.key a.total) (rw (ne_eqb _ _ c.if-table-ne16.true) refl)
+    let h = hub a.table.now a.records.now stored in
+    let s = c.take.ensures in
+    let l = placed_at widths h (Take a.slot a.key a.total) (sym c.place.ensures ∙ c.in-Ok.is) in
+    let put = put_back h.records a.slot (take_whole widths h a.slot a.key a.total (here widths h _ l.lent l.low)) l.low c.take.new.area c.take.auto.area in
+    done_step widths h _ _ l (s.entry, c.answer.ensures ∙ s.answer, put ∙ ap (with_area h.records a.slot) s.area_after, refl)
 
-pub returns-then-records-ne65536 : goal.returns-then-records-ne65536
-returns-then-records-ne65536 c = λ widths stored.
-    let a = c.args in
-    wrong_step widths (hub a.table.now a.records.now stored) (Take a.slot a.key a.total) (rw (eq-eqb _ _ c.if-table-ne16.false, ne_eqb _ _ c.if-records-ne65536.true) refl)
-
-pub returns-then-slot-gt15 : goal.returns-then-slot-gt15
-returns-then-slot-gt15 c = λ widths stored.
-    let a = c.args in
-    above_step widths (hub a.table.now a.records.now stored) (Take a.slot a.key a.total) (rw (eq-eqb _ _ c.if-table-ne16.false, eq-eqb _ _ c.if-records-ne65536.false) refl) c.if-slot-gt15.true
-
-pub returns-then-o-ne0 : goal.returns-then-o-ne0
-returns-then-o-ne0 c = λ widths stored.
-    let a = c.args in
-    kept_step widths (hub a.table.now a.records.now stored) (Take a.slot a.key a.total) _ c.take_slot-o.result c.take_slot-o.new.records stored (rw (eq-eqb _ _ c.if-table-ne16.false, eq-eqb _ _ c.if-records-ne65536.false) refl) c.if-table-ne16.false c.if-slot-gt15.false c.take_slot-o.ensures.0 c.take_slot-o.ensures.1 refl c.if-o-ne0.true
-
-pub returns : goal.returns
-returns c = λ widths stored.
-    let a = c.args in
-    taken_step widths (hub a.table.now a.records.now stored) (Take a.slot a.key a.total) _ c.take_slot-o.result c.take_slot-o.new.records stored (rw (eq-eqb _ _ c.if-table-ne16.false, eq-eqb _ _ c.if-records-ne65536.false) refl) c.if-table-ne16.false c.if-slot-gt15.false c.take_slot-o.ensures.0 c.take_slot-o.ensures.1 refl
+pub returns-in-Err : goal.returns-in-Err
+returns-in-Err c = λ widths stored. refused_step _ _ _ (sym c.place.ensures ∙ c.in-Err.is) c.into.ensures
