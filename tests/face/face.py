@@ -75,8 +75,10 @@ class Crate:
     Private modules are read too: a method can be named wherever its type can, and C calls what is exported wherever it stands."""
 
     def __init__(self, source):
-        self.source, self.functions, self.types = source, [], {}
+        self.source, self.functions, self.types, self.blocks = source, [], {}, []
         self._module((), tokens(source(())), True)
+        for path, head, words in self.blocks:
+            self._methods(path, head, words)
 
     def _module(self, path, words, named):
         at, public, exported = 0, False, False
@@ -101,7 +103,7 @@ class Crate:
         if word == 'mod':
             return self._child(path, words, at, named)
         if word == 'impl':
-            return self._methods(path, words, at)
+            return self._block(path, words, at)
         if word in ('struct', 'enum'):
             return self._type(path, words, at, named)
         if word in ('const', 'type') or word == 'use' and not named:
@@ -128,24 +130,35 @@ class Crate:
         self.types[path, words[at + 1]] = named
         return ending(words, at)
 
-    def _methods(self, path, words, at):
-        """A type's methods can be named where it can; so its block stands in its own module, below it. What a trait's block has needs no name: it can be
-        called where the type can be named, and always where the type is of another module."""
+    def _block(self, path, words, at):
+        """Read when all types are known: a type's block may stand in another module."""
         start = words.index('{', at)
-        head, end = words[at + 1:start], past(words, start)
+        end = past(words, start)
+        self.blocks.append((path, words[at + 1:start], words[start + 1:end - 1]))
+        return end
+
+    def _is_named(self, path, name):
+        found = [(path, name)] if (path, name) in self.types else [place for place in self.types if place[1] == name]
+        if len(found) != 1:
+            raise Unread(f'{self._called(path)}: impl {name}, {"no type of this crate" if not found else "a type of several modules"}')
+        return self.types[found[0]]
+
+    def _methods(self, path, head, words):
+        """A type's methods can be named where it can; a trait's functions, which have no `pub`, where all its types of this crate can."""
         trait = 'for' in head
         name = re.sub('<.*?>', '', ''.join(head[head.index('for') + 1:] if trait else head))
-        if (path, name) not in self.types and not trait:
-            raise Unread(f'{self._called(path)}: impl {name}, a type of another module')
-        named, public, at = self.types.get((path, name), True), trait, start + 1
-        while at < end - 1:
+        own = [word for word in head if any(word == kind for _, kind in self.types)] if trait else [name]
+        named = all([self._is_named(path, word) for word in own or [name]])
+        public, at = trait, 0
+        while at < len(words):
             if words[at] == 'fn':
                 at = self._function(path, words, at, public and named, f'{name}::')
                 public = trait
+            elif trait and words[at] in CLAUSES:
+                at = statement(words, at)
             else:
                 public = trait or words[at] == 'pub' and words[at + 1] != '(' or public and words[at] in {*BETWEEN, 'const'}
                 at += 1
-        return end
 
 
 def libraries():

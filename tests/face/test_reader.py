@@ -63,16 +63,12 @@ class Methods(unittest.TestCase):
     def test_methods_in_a_private_module_do_not(self):
         self.assertEqual(read(lib='mod a;', a='pub struct S { n: u32 }\nimpl S { pub fn m() {} }'), [])
 
-    def test_methods_of_a_trait_count_where_their_type_does(self):
-        block = 'impl<const N: usize> From<u8> for S<N> {\n    ghost from_gives = { λ n s. s.n ≡ n };\n    type E = u8;\n    fn from(n: u8) -> S<N> requires { P } { S { n } }\n    fn of() {}\n}'
-        self.assertEqual(read(lib='pub struct S<const N: usize> { n: u8 }\n' + block), ['lib S::from!', 'lib S::of'])
-        self.assertEqual(read(lib='struct S<const N: usize> { n: u8 }\n' + block), [])
+    def test_a_block_may_stand_in_another_module(self):
+        self.assertEqual(read(lib='pub mod a;\nmod b;', a='pub struct S { n: u32 }\nstruct T { n: u32 }', b='impl S { pub fn m() requires { P } {} pub(crate) fn near() {} }\nimpl T { pub fn m() {} }'), ['b S::m!'])
 
-    def test_methods_of_a_trait_for_a_type_of_another_module_count(self):
-        self.assertEqual(read(lib="impl<'a> From<u8> for T<'a> { fn from(n: u8) -> T<'a> { T { n } } }"), ['lib T::from'])
-
-    def test_a_model_has_no_method(self):
-        self.assertEqual(read(lib='pub struct S { n: u8 }\nimpl Model for S { ghost Value = { ℕ }; ghost view = { λ s. s.n }; }'), [])
+    def test_a_trait_s_functions_count_where_all_its_types_can_be_named(self):
+        text = 'pub struct S(u8);\nstruct P(u8);\nimpl From<S> for u8 { ghost from_gives = { λ s n. n ≡ s }; fn from(s: S) -> u8 { s.0 } }\nimpl From<P> for S { fn from(p: P) -> S { S(p.0) } }'
+        self.assertEqual(read(lib=text), ['lib u8::from'])
 
 
 class Others(unittest.TestCase):
@@ -81,7 +77,7 @@ class Others(unittest.TestCase):
         self.assertEqual(read(lib=text), ['lib f'])
 
     def test_what_could_hide_a_function_is_refused(self):
-        for text in ('pub use a::f;\nmod a {}', 'impl S { pub fn m() {} }', 'macro f() {}'):
+        for text in ('pub use a::f;\nmod a {}', 'impl S { pub fn m() {} }', 'impl From<u8> for u16 { fn from(n: u8) -> u16 { n } }', 'mod a { struct S; }\nmod b { struct S; }\nimpl S { pub fn m() {} }', 'macro f() {}'):
             with self.assertRaises(Unread):
                 read(lib=text)
 

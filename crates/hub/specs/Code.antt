@@ -7,30 +7,30 @@ use Rattle.hub.specs.declared.refusal.Refusal.{Refusal}
 use Rattle.hub.specs.declared.refusal.Refusal.TheVariants.{AlreadyTaken, LentLength, NoSlot, Damaged, Busy, OldKey, BadDescriptor, NoJob, BadNumber, Gap, BadTotal, StoredNumber}
 
 -- the code that is answered for a refusal
-abbrev pub code_of : Refusal → ℕ
-code_of AlreadyTaken = 1
-code_of LentLength = 10
-code_of NoSlot = 11
-code_of Damaged = 12
-code_of Busy = 13
-code_of OldKey = 14
-code_of BadDescriptor = 15
-code_of NoJob = 16
-code_of BadNumber = 17
-code_of Gap = 18
-code_of BadTotal = 30
-code_of StoredNumber = 32
+abbrev pub code_for : Refusal → ℕ
+code_for AlreadyTaken = 1
+code_for LentLength = 10
+code_for NoSlot = 11
+code_for Damaged = 12
+code_for Busy = 13
+code_for OldKey = 14
+code_for BadDescriptor = 15
+code_for NoJob = 16
+code_for BadNumber = 17
+code_for Gap = 18
+code_for BadTotal = 30
+code_for StoredNumber = 32
 
 -- a check
-abbrev pub checked : Result Unit Refusal → Checked Unit
-checked (Ok _) = fine tt
-checked (Err why) = refuse (code_of why)
+abbrev pub tested : Result Unit Refusal → Checked Unit
+tested (Ok _) = fine tt
+tested (Err why) = refuse (code_for why)
 
 -- an answer
-abbrev pub answered : Result Answer Refusal → Answer
-answered (Ok a) = a
-answered (Err why) = refusal (code_of why)
+abbrev pub replied : Result Answer Refusal → Answer
+replied (Ok a) = a
+replied (Err why) = refusal (code_for why)
 
 -- where a slot's entry stands, by whether what is lent has the right lengths
-abbrev pub placed : Bool → ℕ → Result ℕ Refusal
-placed lent slot = if lent then (if ltb slot 16 then Ok slot else Err NoSlot) else Err LentLength
+abbrev pub place_of : Bool → ℕ → Result ℕ Refusal
+place_of lent slot = if lent then (if ltb slot 16 then Ok slot else Err NoSlot) else Err LentLength

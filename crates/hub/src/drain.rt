@@ -28,7 +28,7 @@ pub fn move_down(area: &mut [u8], from: usize, to: usize)
     ensures { area.new ≡ moved_down area.old from to }
 {
     let mut at = from;
-    // By blocks, each read before it is stored, as the two may overlap: `copy_within` alone goes byte by byte, 275 ns for 4,080 bytes where this takes 110.
+    // By blocks, each read before it is stored, as the two may overlap: `copy_within` alone goes byte by byte, 275 ns for 4,080 bytes, this 110 to 130.
     while 64 <= to - at {
         let mut block = [0u8; 64];
         block.copy_from_slice(&area[at..at + 64]);

@@ -3,7 +3,7 @@ ghost use Rattle.std.specs.Prelude.{◌≡◌, true};
 ghost use Rattle.part.specs.Ranges.{hold, descriptor_fields};
 ghost use Rattle.hub.specs.Entries.{is_open, is_open_under, damaged, first_state};
 ghost use Rattle.hub.specs.Requests.{may_open, may_close, opening, closing, one_more, one_less};
-ghost use Rattle.hub.specs.Code.{checked, answered};
+ghost use Rattle.hub.specs.Code.{tested, replied};
 
 use super::jobs::Entry;
 use super::refusal::{Refusal, require};
@@ -43,7 +43,7 @@ fn first_state(d: Descriptor) -> State
 
 impl Entry {
     // Any mark but 0 is an open job's.
-    pub fn is_open(&self) -> bool
+    pub(crate) fn is_open(&self) -> bool
         ensures { result ≡ is_open self.now }
     {
         self.mark != 0
@@ -51,7 +51,7 @@ impl Entry {
 
     // Whether it is open with a number out of its range.
     #[tactic(auto, using(crate::proofs::Ranging::entry_holds))]
-    pub fn is_damaged(&self) -> bool
+    pub(crate) fn is_damaged(&self) -> bool
         ensures { result ≡ damaged self.now }
     {
         let whole = (self.mark <= 1)
@@ -61,7 +61,7 @@ impl Entry {
         self.is_open() & !whole
     }
 
-    pub fn is_open_under(&self, key: u32) -> bool
+    pub(crate) fn is_open_under(&self, key: u32) -> bool
         ensures { result ≡ is_open_under self.now key }
     {
         self.is_open() & (self.key == key)
@@ -70,7 +70,7 @@ impl Entry {
     // An open's checks, in their order.
     #[tactic(auto, unfolding(crate::specs::Requests::may_open))]
     fn may_open(&self, key: u32, d: Descriptor, stored: u32) -> Result<(), Refusal>
-        ensures { checked result ≡ may_open key d stored self.now }
+        ensures { tested result ≡ may_open key d stored self.now }
     {
         require(!self.is_damaged(), Refusal::Damaged)?;
         require(!self.is_open_under(key), Refusal::AlreadyTaken)?;
@@ -82,9 +82,14 @@ impl Entry {
 
     // Opens a job, and counts it.
     #[tactic(auto, using(crate::proofs::Passing::opens), unfolding(crate::specs::Requests::opening, crate::specs::Requests::one_more))]
-    pub fn open(&mut self, open_jobs: &mut u32, key: u32, d: Descriptor) -> Result<Answer, Refusal>
+    pub(crate) fn open(
+        &mut self,
+        open_jobs: &mut u32,
+        key: u32,
+        d: Descriptor,
+    ) -> Result<Answer, Refusal>
         ensures entry { self.new ≡ (opening key d open_jobs.old self.old).entry }
-        ensures answer { answered result ≡ (opening key d open_jobs.old self.old).answer }
+        ensures answer { replied result ≡ (opening key d open_jobs.old self.old).answer }
         ensures number { open_jobs.new ≡ one_more key d open_jobs.old self.old }
     {
         self.may_open(key, d, *open_jobs)?;
@@ -103,7 +108,7 @@ impl Entry {
     // A close's checks, in their order.
     #[tactic(auto, unfolding(crate::specs::Requests::may_close))]
     fn may_close(&self, key: u32, stored: u32) -> Result<(), Refusal>
-        ensures { checked result ≡ may_close key stored self.now }
+        ensures { tested result ≡ may_close key stored self.now }
     {
         require(!self.is_damaged(), Refusal::Damaged)?;
         require(
@@ -116,9 +121,9 @@ impl Entry {
 
     // Closes the job, and counts it no more.
     #[tactic(auto, using(crate::proofs::Passing::falls), unfolding(crate::specs::Requests::closing, crate::specs::Requests::one_less))]
-    pub fn close(&mut self, open_jobs: &mut u32, key: u32) -> Result<Answer, Refusal>
+    pub(crate) fn close(&mut self, open_jobs: &mut u32, key: u32) -> Result<Answer, Refusal>
         ensures entry { self.new ≡ (closing key open_jobs.old self.old).entry }
-        ensures answer { answered result ≡ (closing key open_jobs.old self.old).answer }
+        ensures answer { replied result ≡ (closing key open_jobs.old self.old).answer }
         ensures number { open_jobs.new ≡ one_less key open_jobs.old self.old }
     {
         self.may_close(key, *open_jobs)?;

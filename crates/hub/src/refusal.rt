@@ -2,7 +2,7 @@
 ghost use Rattle.std.specs.Prelude.{◌≡◌};
 ghost use Rattle.part.specs.Checks.{require};
 ghost use Rattle.hub.specs.Requests.{refusal};
-ghost use Rattle.hub.specs.Code.{code_of, checked};
+ghost use Rattle.hub.specs.Code.{code_for, tested};
 
 use part::shapes::Answer;
 
@@ -24,7 +24,7 @@ pub enum Refusal {
 }
 
 impl From<Refusal> for Answer {
-    ghost from_gives = { λ why a. a ≡ refusal (code_of why) };
+    ghost from_gives = { λ why a. a ≡ refusal (code_for why) };
 
     fn from(why: Refusal) -> Answer {
         Answer {
@@ -37,7 +37,7 @@ impl From<Refusal> for Answer {
 
 // One test of a check.
 pub fn require(ok: bool, why: Refusal) -> Result<(), Refusal>
-    ensures { checked result ≡ require ok (code_of why) }
+    ensures { tested result ≡ require ok (code_for why) }
 {
     if ok { Ok(()) } else { Err(why) }
 }

@@ -1,7 +1,7 @@
 // The request that takes a part: the entry, and the area of its slot.
 ghost use Rattle.std.specs.Prelude.{◌≡◌};
 ghost use Rattle.hub.specs.Requests.{judged, may_submit, submitting, area_filled};
-ghost use Rattle.hub.specs.Code.{checked, answered};
+ghost use Rattle.hub.specs.Code.{tested, replied};
 
 use super::jobs::Entry;
 use super::refusal::{Refusal, require};
@@ -11,7 +11,7 @@ use part::shapes::Answer;
 // A part's number against the next one.
 #[tactic(auto, unfolding(crate::specs::Requests::judged))]
 fn judge(next: u32, number: u32) -> Result<(), Refusal>
-    ensures { checked result ≡ judged next number }
+    ensures { tested result ≡ judged next number }
 {
     require((1..=65535).contains(&number), Refusal::BadNumber)?;
     require(next <= number, Refusal::AlreadyTaken)?;
@@ -22,7 +22,7 @@ impl Entry {
     // A submit's checks, in their order.
     #[tactic(auto, unfolding(crate::specs::Requests::may_submit))]
     fn may_submit(&self, key: u32, number: u32) -> Result<(), Refusal>
-        ensures { checked result ≡ may_submit key number self.now }
+        ensures { tested result ≡ may_submit key number self.now }
     {
         require(!self.is_damaged(), Refusal::Damaged)?;
         require(self.is_open_under(key), Refusal::NoJob)?;
@@ -31,7 +31,7 @@ impl Entry {
 
     // Takes a part, and its records into the area. The answer is the part's own; where its elements all pass, its state is the entry's, and next grows.
     #[tactic(auto, using(crate::proofs::Passing::next_low), unfolding(crate::specs::Requests::submitting, crate::specs::Requests::area_filled))]
-    pub fn submit(
+    pub(crate) fn submit(
         &mut self,
         area: &mut [u8],
         widths: &[u16],
@@ -40,7 +40,7 @@ impl Entry {
         part: &[u8],
     ) -> Result<Answer, Refusal>
         ensures entry { self.new ≡ (submitting widths.now key number part.now area.old self.old).entry }
-        ensures answer { answered result ≡ (submitting widths.now key number part.now area.old self.old).answer }
+        ensures answer { replied result ≡ (submitting widths.now key number part.now area.old self.old).answer }
         ensures area_after { area.new ≡ area_filled widths.now key number part.now area.old self.old }
     {
         self.may_submit(key, number)?;

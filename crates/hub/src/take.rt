@@ -2,7 +2,7 @@
 ghost use Rattle.std.specs.Prelude.{◌≡◌, length};
 ghost use Rattle.hub.specs.Entries.{all_written};
 ghost use Rattle.hub.specs.Requests.{may_take, taking, area_left};
-ghost use Rattle.hub.specs.Code.{checked, answered};
+ghost use Rattle.hub.specs.Code.{tested, replied};
 
 use super::drain::{meets, move_down};
 use super::entries::DONE;
@@ -22,7 +22,7 @@ impl Entry {
     #[tactic(auto, unfolding(crate::specs::Requests::may_take))]
     fn may_take(&self, area: &[u8], key: u32, total: u64) -> Result<(), Refusal>
         requires { length area.now ≡ 4096 }
-        ensures { checked result ≡ may_take key total area.now self.now }
+        ensures { tested result ≡ may_take key total area.now self.now }
     {
         let taken = self.taken as u64;
         require(!self.is_damaged(), Refusal::Damaged)?;
@@ -39,10 +39,10 @@ impl Entry {
 
     // Takes records out of the area, and notes how many bytes were taken.
     #[tactic(auto, using(crate::proofs::Passing::takes), unfolding(crate::specs::Requests::taking, crate::specs::Requests::area_left))]
-    pub fn take(&mut self, area: &mut [u8], key: u32, total: u64) -> Result<Answer, Refusal>
+    pub(crate) fn take(&mut self, area: &mut [u8], key: u32, total: u64) -> Result<Answer, Refusal>
         requires { length area.old ≡ 4096 }
         ensures entry { self.new ≡ (taking key total area.old self.old).entry }
-        ensures answer { answered result ≡ (taking key total area.old self.old).answer }
+        ensures answer { replied result ≡ (taking key total area.old self.old).answer }
         ensures area_after { area.new ≡ area_left key total area.old self.old }
     {
         self.may_take(area, key, total)?;
