@@ -63,6 +63,14 @@ class Methods(unittest.TestCase):
     def test_methods_in_a_private_module_do_not(self):
         self.assertEqual(read(lib='mod a;', a='pub struct S { n: u32 }\nimpl S { pub fn m() {} }'), [])
 
+    def test_methods_of_a_trait_count_where_their_type_does(self):
+        block = 'impl<const N: usize> From<u8> for S<N> {\n    ghost from_gives = { λ n s. s.n ≡ n };\n    type E = u8;\n    fn from(n: u8) -> S<N> requires { P } { S { n } }\n    fn of() {}\n}'
+        self.assertEqual(read(lib='pub struct S<const N: usize> { n: u8 }\n' + block), ['lib S::from!', 'lib S::of'])
+        self.assertEqual(read(lib='struct S<const N: usize> { n: u8 }\n' + block), [])
+
+    def test_a_model_has_no_method(self):
+        self.assertEqual(read(lib='pub struct S { n: u8 }\nimpl Model for S { ghost Value = { ℕ }; ghost view = { λ s. s.n }; }'), [])
+
     def test_a_block_may_stand_in_another_module(self):
         self.assertEqual(read(lib='pub mod a;\nmod b;', a='pub struct S { n: u32 }\nstruct T { n: u32 }', b='impl S { pub fn m() requires { P } {} pub(crate) fn near() {} }\nimpl T { pub fn m() {} }'), ['b S::m!'])
 

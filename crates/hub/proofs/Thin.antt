@@ -6,7 +6,7 @@ use lib.Dec.{ltb}
 use borrow.Author.Tests.{ltb-true, lt-ltb}
 use Rattle.hub.specs.Entries.{fresh}
 use Rattle.hub.specs.Requests.{refusal, Hub, hub, Request, Reply, slot_of, is_lent, on_entry, on_records, on_stored, step}
-use Rattle.hub.specs.Code.{code_for, place_of}
+use Rattle.hub.specs.Code.{code_for, entry_place}
 use Rattle.hub.specs.declared.jobs.Entry.{Entry}
 use Rattle.hub.specs.declared.refusal.Refusal.{Refusal}
 use Rattle.hub.specs.declared.refusal.Refusal.TheVariants.{LentLength, NoSlot}
@@ -35,7 +35,7 @@ module _ (widths : List ℕ) (h : Hub) (r : Request) where
   Place t u = if t then (if u then Ok (slot_of r) else Err NoSlot) else Err LentLength
 
   -- a lent length is wrong, or there is no such slot
-  pub refused_step : {why : Refusal} {a : Answer} → place_of (is_lent widths h r) (slot_of r) ≡ Err why → a ≡ refusal (code_for why) → IsReply (step widths h r) a h
+  pub refused_step : {why : Refusal} {a : Answer} → entry_place (is_lent widths h r) (slot_of r) ≡ Err why → a ≡ refusal (code_for why) → IsReply (step widths h r) a h
   unfolding step
   refused_step {why} {a} is e = go (is_lent widths h r) refl (ltb (slot_of r) 16) refl is
     where
@@ -50,7 +50,7 @@ module _ (widths : List ℕ) (h : Hub) (r : Request) where
     pub low : slot_of r < 16
     pub is : slot_of r ≡ at
 
-  pub placed_at : {at : ℕ} → place_of (is_lent widths h r) (slot_of r) ≡ Ok at → Lent at
+  pub placed_at : {at : ℕ} → entry_place (is_lent widths h r) (slot_of r) ≡ Ok at → Lent at
   placed_at {at} is = go (is_lent widths h r) refl (ltb (slot_of r) 16) refl is
     where
       go : (t : Bool) → is_lent widths h r ≡ t → (u : Bool) → ltb (slot_of r) 16 ≡ u → Place t u ≡ Ok at → Lent at

@@ -32,5 +32,5 @@ replied (Ok a) = a
 replied (Err why) = refusal (code_for why)
 
 -- where a slot's entry stands, by whether what is lent has the right lengths
-abbrev pub place_of : Bool → ℕ → Result ℕ Refusal
-place_of lent slot = if lent then (if ltb slot 16 then Ok slot else Err NoSlot) else Err LentLength
+abbrev pub entry_place : Bool → ℕ → Result ℕ Refusal
+entry_place lent slot = if lent then (if ltb slot 16 then Ok slot else Err NoSlot) else Err LentLength

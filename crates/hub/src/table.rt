@@ -4,7 +4,7 @@
 // jobs, a take no widths.
 ghost use Rattle.std.specs.Prelude.{◌≡◌, List, ℕ};
 ghost use Rattle.hub.specs.Requests.{hub, Open, Submit, Take, Close, step, count_open};
-ghost use Rattle.hub.specs.Code.{place_of, replied};
+ghost use Rattle.hub.specs.Code.{entry_place, replied};
 
 use super::jobs::Entry;
 use super::refusal::{Refusal, require};
@@ -12,7 +12,7 @@ use part::shapes::{Answer, Descriptor};
 
 // Where a slot's entry stands, if what is lent has the right lengths.
 fn place(lent: bool, slot: u32) -> Result<usize, Refusal>
-    ensures { result ≡ place_of lent slot }
+    ensures { result ≡ entry_place lent slot }
 {
     require(lent, Refusal::LentLength)?;
     require(slot < 16, Refusal::NoSlot)?;
