@@ -1,6 +1,6 @@
 -- From a run to the answer: what was tested first, and what a refused and a whole run come to.
 -- Assumes nothing.
-use Prim.Native.Nat.{ℕ, zero, suc, ◌+◌, ◌-◌, ◌/◌, ◌%◌, ◌<◌, ◌≤◌}
+use Prim.Native.Nat.{ℕ, ◌+◌, ◌-◌, ◌≤◌}
 use mathlib.Core.Path.{◌≡◌, refl, sym, ◌∙◌, ap}
 use mathlib.Core.Bool.{Bool, true, false, ◌&&◌}
 use mathlib.Core.List.{List, [], ◌∷◌, append-nil}
@@ -17,13 +17,14 @@ use Rattle.part.specs.Reading.{Piece, cut_from, cut}
 use Rattle.part.specs.Records.{all_bytes}
 use Rattle.part.specs.Place.{Effect}
 use Rattle.part.specs.Part.{elements, elements_by, admitted, outcome, answer, interpreted, area_after}
-use Rattle.part.specs.Code.{verdict, elements_in, Completed, AddedAll, admitted_by}
+use Rattle.part.specs.Code.{fault_code, place_of, refused_from, elements_in, Completed, AddedAll, admitted_by}
 use Rattle.part.specs.declared.shapes.Descriptor.{Descriptor}
 use Rattle.part.specs.declared.shapes.State.{State}
 use Rattle.part.specs.declared.shapes.Interpreted.{Interpreted}
+use Rattle.part.specs.declared.faults.Fault.{Fault}
 use Rattle.part.proofs.Areas.{elements_fit}
 use Rattle.part.proofs.Bounds.{used_fits}
-use Rattle.part.proofs.Checks.{tested, first_of, second_of}
+use Rattle.part.proofs.Checks.{Gives, gives_where, gives-only, fault_of, tested, first_of, second_of}
 use Rattle.part.proofs.Fields.{changed}
 use Rattle.part.proofs.Parts.{elements_grow}
 use Rattle.part.proofs.Rooms.{more_room}
@@ -52,6 +53,14 @@ fits p t a d s h =
       descriptor = descriptor.0;
       part = leb-true p 8192 (held (leb p 8192) 19 descriptor.1);
     }
+
+-- what those tests refuse is refused at the first byte
+at_first : (p t a : ℕ) (d : Descriptor) (s : State) → Gives (λ _. Unit) (λ code at. at ≡ 0) (admitted_by p t a d s)
+at_first p t a d s =
+    gives_where (eqb a 4096 && eqb t 1024) 10 _ refl λ _.
+    gives_where (hold (state_fields s)) 12 _ refl λ _.
+    gives_where (hold (descriptor_fields d)) 15 _ refl λ _.
+    gives-only (leb p 8192) 19 refl
 
 -- a state in range is so with no bytes used
 pub lowered : (s : State) → hold (state_fields s) ≡ true → hold (state_fields (with_used s 0)) ≡ true
@@ -86,21 +95,14 @@ abbrev pub told : ℕ → ℕ → ℕ → State → Interpreted
 told code first second s = record { answer = answer code first second; state = s }
 
 module _ (widths : List ℕ) (d : Descriptor) (s : State) (part area : List ℕ) where
-  pub refused-first : (n : ℕ) → (n ≡ 0 → ⊥) → n < 256 → verdict n tt ≡ admitted_by (length part) (length widths) (length area) d s
-      → (told n 0 0 s ≡ interpreted widths d s part area) × (area ≡ area_after widths d s part area)
+  pub refused-first : (why : Fault) → refused_from 4 why ≡ admitted_by (length part) (length widths) (length area) d s
+      → (told (fault_code why) 0 0 s ≡ interpreted widths d s part area) × (area ≡ area_after widths d s part area)
   unfolding interpreted area_after outcome admitted
-  refused-first zero k h e = absurd (k refl)
-  refused-first (suc n) k h e =
-      let code : suc n % 256 ≡ suc n = omega arith in
-      let at : suc n / 256 ≡ 0 = omega arith in
-      rw (← e, code, at) (refl, refl)
+  refused-first why h =
+      let first : place_of 4 why ≡ 0 = fault_of _ (at_first (length part) (length widths) (length area) d s) (sym h) in
+      rw (← h, first) (refl, refl)
 
   module _ (adm : fine tt ≡ admitted_by (length part) (length widths) (length area) d s) where
-    pub broken : (code at : ℕ) → elements widths d s (cut s.chain part) ≡ fault code at
-        → (told code at 0 s ≡ interpreted widths d s part area) × (area ≡ area_after widths d s part area)
-    unfolding interpreted area_after outcome admitted
-    broken code at e = rw (← adm, e) (refl, refl)
-
     -- all passed on an area like the job's
     pub whole : (count : ℕ) (t : State) (after : List ℕ) → AddedAll (elements_in 4096 widths d s (cut s.chain part)) (length (cut s.chain part)) area s.used count t after
         → (s.used ≤ t.used) × (told 0 count (t.used - s.used) t ≡ interpreted widths d s part area) × (after ≡ area_after widths d s part area)
@@ -120,6 +122,12 @@ module _ (widths : List ℕ) (d : Descriptor) (s : State) (part area : List ℕ)
             let many : t.used - s.used ≡ length bytes = omega arith in
             let room : s.used + length bytes ≤ length area = omega (arith, fit.area) in
             (omega arith, rw (← adm, e, many, r.0, r.1.0), r.1.1 ∙ rw (← adm, e) (sets-eq bytes area s.used room))
+
+    -- refused there
+    pub broken : (code at : ℕ) (after : List ℕ) → (elements_in 4096 widths d s (cut s.chain part) ≡ fault code at) × (after ≡ area)
+        → (told code at 0 s ≡ interpreted widths d s part area) × (after ≡ area_after widths d s part area)
+    unfolding interpreted area_after outcome admitted
+    broken code at after h = rw (← adm, ← elements-whole widths d s (cut s.chain part), h.0) (refl, h.1)
 
     -- all passed on an area of fewer bytes, as if nothing were used yet, and the job's has room for as many
     pub briefly : (most count : ℕ) (t : State) (after : List ℕ) → s.used + most ≤ 4096 → AddedAll (elements_in most widths d (with_used s 0) (cut s.chain part)) (length (cut s.chain part)) area s.used count t after

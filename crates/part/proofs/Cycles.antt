@@ -1,9 +1,9 @@
 -- The characters of a text that begins again at its end: they come in rounds, each of them the whole text, and a last part of one.
 -- Assumes nothing.
-use Prim.Native.Nat.{ℕ, zero, suc, ◌+◌, ◌*◌, ◌%◌, ◌<◌, ◌≤◌}
+use Prim.Native.Nat.{ℕ, zero, suc, ◌+◌, ◌*◌, ◌/◌, ◌%◌, ◌<◌, ◌≤◌}
 use mathlib.Core.Path.{◌≡◌, refl, sym, ◌∙◌, ap}
 use mathlib.Core.List.{List, [], ◌++◌, append_assoc}
-use native.Mathlib.Nat.{mod-eq_of_lt, add-zero, mod-add-mod, add-mod_right, zero-add, suc-add, zero-mul, suc-mul}
+use native.Mathlib.Nat.{mod-lt, div-add-mod', mod-eq_of_lt, add-zero, mod-add-mod, add-mod_right, zero-add, suc-add, zero-mul, suc-mul}
 use native.Mathlib.Numerals.{add-one}
 use native.Mathlib.Omega.{arith}
 use lib.ListN.{length, take, drop}
@@ -66,3 +66,9 @@ module _ (t : List ℕ) where
   rounds (suc q) r h =
       let e : suc q * length t + r ≡ length t + (q * length t + r) = rw suc-mul (omega arith) in
       rw (e, round (q * length t + r), rounds q r h) (sym (append_assoc t (times q) (take r t)))
+
+  -- the same of any count
+  pub split : (count : ℕ) → 0 < length t → cycle t 0 count ≡ times (count / length t) ++ take (count % length t) t
+  split count h =
+      let part : count % length t < length t = mod-lt count h in
+      ap (cycle t 0) (sym (div-add-mod' count (length t))) ∙ rounds (count / length t) (count % length t) (omega arith)

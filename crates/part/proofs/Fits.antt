@@ -142,7 +142,7 @@ repeated-fits p h =
 abbrev Reads : Row → Type 0
 Reads r = Sound r.lengths.least r.values
 
-rows_fit : Every Reads types
+pub rows_fit : Every Reads types
 unfolding types
 rows_fit =
     number_fits _ AbsoluteMoveInline (λ v t. t)
@@ -170,7 +170,7 @@ rows_fit =
 abbrev Unknown : ℕ → ℕ → Type 0
 Unknown code at = (code ≡ 23) × (at ≡ 0)
 
-row_fits : (rs : List Row) (code : ℕ) → Every Reads rs → Gives Reads Unknown (row_of rs code)
+pub row_fits : (rs : List Row) (code : ℕ) → Every Reads rs → Gives Reads Unknown (row_of rs code)
 row_fits [] code none = refusal (refl, refl)
 row_fits (r ∷ rs) code (one also others) = gives_either (eqb r.function code) (value one) (row_fits rs code others)
 

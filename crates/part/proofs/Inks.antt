@@ -37,5 +37,5 @@ unfolding bytes_of
 text_bytes s cs = sym (append-nil _)
 
 -- a record as the code stores it: its head, and the characters
-pub recorded_text : (area : List ℕ) (s : State) (used : ℕ) (cs : List ℕ) (h : Head) → used ≡ s.used → h ≡ head_of s (length cs) → sets area used (head_bytes h ++ cs) ≡ sets area s.used (all_bytes (shown_text s cs ∷ []))
-recorded_text area s used cs h u e = rw (u, e) (ap (sets area s.used) (text_bytes s cs))
+pub recorded_text : (area : List ℕ) (s : State) (cs : List ℕ) (h : Head) → h ≡ head_of s (length cs) → sets area s.used (head_bytes h ++ cs) ≡ sets area s.used (all_bytes (shown_text s cs ∷ []))
+recorded_text area s cs h e = rw e (ap (sets area s.used) (text_bytes s cs))

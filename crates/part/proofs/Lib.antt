@@ -17,7 +17,6 @@ pub mod Lines
 pub mod Nearer
 pub mod Outcomes
 pub mod Parts
-pub mod Places
 pub mod Placing
 pub mod Plains
 pub mod Pointing
@@ -32,6 +31,5 @@ pub mod Signed
 pub mod Stores
 pub mod Texts
 pub mod Turns
-pub mod Verdicts
 pub mod Words
 pub mod Sheets

@@ -6,7 +6,7 @@ use mathlib.Core.Bool.{true, false, true≢false, ◌&&◌}
 use mathlib.Core.List.{List, [], ◌∷◌, ◌++◌}
 use native.Mathlib.Omega.{arith}
 use lib.ListN.{length, drop, length-drop}
-use lib.Dec.{leb, eqb}
+use lib.Dec.{eqb}
 use Rattle.part.specs.Checks.{Checked, fine, fault, ◌>>=◌, ◌>>◌}
 use Rattle.part.specs.Ranges.{◌to◌, ◌∈◌, hold, descriptor_fields, state_fields}
 use Rattle.part.specs.Reading.{element, cut_from, cut}

@@ -10,11 +10,12 @@ use native.Mathlib.Nat.{le_refl, not-suc-le-zero}
 use lib.ListN.{length, get_or, drop, length-append, length-drop, get_or-append}
 use lib.Seq.{take-append-le, drop-append-le}
 use lib.Dec.{leb, eqb}
-use borrow.Author.Tests.{leb-true, le-leb, eqb-false}
-use Rattle.part.specs.Checks.{Checked, fine, fault, require, require_at, starting_at, ◌>>=◌, ◌>>◌}
+use borrow.Author.Tests.{leb-true, le-leb, lt-leb, eqb-false}
+use Rattle.part.specs.Checks.{Checked, fine, fault, refuse, require, require_at, starting_at, ◌>>=◌, ◌>>◌}
 use Rattle.part.specs.Elements.{Element}
 use Rattle.part.specs.Types.{function, chaining, Row, types, row_of, values_of, ◌takes◌}
 use Rattle.part.specs.Reading.{Found, found, between, sequence, stretch, free_run, introduced, element}
+use Rattle.part.specs.Code.{cut_short}
 use Rattle.part.proofs.Checks.{went_on, tested, tested_at, value-at}
 
 -- ---- sequences
@@ -72,6 +73,23 @@ module _ (at : ℕ) (xs : List ℕ) (f : Found) (h : sequence at xs ≡ fine f) 
       let rest : drop (at + 2) (xs ++ ys) ≡ drop (at + 2) xs ++ ys = drop-append-le (at + 2) xs ys b in
       let taken = take-append-le (at + n - (at + 2)) (drop (at + 2) xs) ys (omega (arith, length-drop (at + 2) xs)) in
       rw (first, second, length-append xs ys, le-leb (at + 2) (length xs + length ys) (omega arith), le-leb (at + 2) (length xs) b, le-leb (at + n) (length xs + length ys) (omega arith), le-leb (at + n) (length xs) e, rest, taken)
+
+-- where the body is cut, what comes before that, or 20
+pub body_cut : {code k : ℕ} (at : ℕ) (bytes : List ℕ) → at + 2 ≤ length bytes → 2 ≤ get_or bytes at 0 → length bytes < at + get_or bytes at 0 → fault code k ≡ cut_short at (function (get_or bytes (at + 1) 0)) (get_or bytes at 0)
+    → fault code k ≡ sequence at bytes
+unfolding sequence
+body_cut at bytes began long short h =
+    rw (le-leb (at + 2) (length bytes) began, le-leb 2 (get_or bytes at 0) long, lt-leb (at + get_or bytes at 0) (length bytes) short)
+    (row (get_or bytes at 0) (λ r. starting_at (at + 2) (r.values (between bytes (at + 2) (at + get_or bytes at 0))) >>= λ e. found e (at + get_or bytes at 0) (chaining (get_or bytes (at + 1) 0)))
+    (starting_at (at + 1) (row_of types (function (get_or bytes (at + 1) 0)))) h)
+  where
+    lengths : {code k : ℕ} (t : Bool) → ◌≡◌ {A = Checked Unit} (fault code k) (require_at at t 22 >> refuse 20) → (m : Checked Found) → fault code k ≡ (require_at at t 22 >> (require false 20 >> m))
+    lengths true h m = cc
+    lengths false h m = cc
+
+    row : {code k : ℕ} (n : ℕ) (rest : Row → Checked Found) (q : Checked Row) → ◌≡◌ {A = Checked Unit} (fault code k) (q >>= λ r. require_at at (r.lengths takes n) 22 >> refuse 20) → fault code k ≡ (q >>= λ r. require_at at (r.lengths takes n) 22 >> (require false 20 >> rest r))
+    row n rest (fault c j) h = cc
+    row n rest (fine r) h = lengths (r.lengths takes n) h (rest r)
 
 -- ---- free runs
 

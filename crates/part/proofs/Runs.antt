@@ -1,47 +1,59 @@
--- A stretch, one byte after the other: it stops at a 2B and at the end, and goes on past any other byte.
+-- A stretch is where the first 2B stands, or the length; and it goes on past blocks of sixteen without one.
 -- Assumes nothing.
-use Rattle.std.specs.Prelude.{if◌then◌else◌}
-use Prim.Native.Nat.{ℕ, zero, suc, ◌+◌, ◌<◌, ◌≤◌}
-use mathlib.Core.Path.{◌≡◌, sym, ◌∙◌}
-use mathlib.Core.Bool.{Bool, true, false}
+use Rattle.std.specs.Prelude.{Some, None, if◌then◌else◌}
+use Rattle.std.specs.List.{list_any, prefix_len, position_or_len}
+use Rattle.std.specs.Simd.{first_chunks}
+use Rattle.std.specs.Option.{unwrap_or}
+use Rattle.std.proofs.lemmas.List.Recursion.{is_position_or_len}
+use Rattle.std.proofs.lemmas.List.Sums.{prefix_len-le-length}
+use Prim.Native.Nat.{ℕ, zero, suc, ◌+◌, ◌*◌, ◌≤◌}
+use mathlib.Core.Path.{◌≡◌, refl, ap}
+use mathlib.Core.Bool.{Bool, true, false, not, ◌||◌, cond}
 use mathlib.Core.List.{List, [], ◌∷◌, ◌++◌}
-use native.Mathlib.Numerals.{add-one}
-use native.Mathlib.Nat.{add-zero, not-suc-le-zero}
+use native.Mathlib.Nat.{zero-add}
 use native.Mathlib.Omega.{arith}
-use lib.ListN.{length, get_or, take, drop, length-drop, take-append-drop, drop_of_length-le}
-use lib.Seq.{drop-cons, drop-drop, length-take-le}
-use lib.Dec.{eqb}
-use borrow.Author.Tests.{eq-eqb, ne_eqb}
+use lib.ListN.{length, take, drop, length-drop, take-append-drop}
+use lib.Seq.{drop-drop, length-take-le}
+use lib.Dec.{eqb, ltb}
+use borrow.Author.Tests.{ltb-false}
 use Rattle.part.specs.Reading.{stretch}
 use Rattle.part.proofs.Reading.{stretch_through}
 
-module _ (bytes : List ℕ) (k : ℕ) where
-  pub stops : k < length bytes → get_or bytes k 0 ≡ 0x2B → k + stretch (drop k bytes) ≡ k
-  stops h e = rw (drop-cons bytes k 0 h, stretch, eq-eqb _ _ e, add-zero)
+abbrev pub is_class : ℕ → Bool
+is_class c = eqb c 0x2B
 
-  pub goes : k < length bytes → (get_or bytes k 0 ≡ 0x2B → ⊥) → k + 1 + stretch (drop (k + 1) bytes) ≡ k + stretch (drop k bytes)
-  goes h e = rw (drop-cons bytes k 0 h, stretch, ne_eqb _ _ e, add-one) (omega arith)
+-- no byte of a block is 2B
+abbrev pub clear : List ℕ → Bool
+clear block = not (list_any is_class block)
 
-  pub ends : length bytes ≤ k → k + stretch (drop k bytes) ≡ k
-  ends h = rw (drop_of_length-le bytes h, add-zero)
+clear-through : (xs : List ℕ) → clear xs ≡ true → stretch xs ≡ length xs
+clear-through [] h = refl
+clear-through (x ∷ xs) h =
+    (elim (eqb x 0x2B) as (λ t. not (t || list_any is_class xs) ≡ true → (if t then 0 else suc (stretch xs)) ≡ suc (length xs))
+    [ true ↦ λ k. cc | false ↦ λ k. ap suc (clear-through xs k) ]) h
 
--- ---- by blocks
-
--- a stretch of k bytes goes on past a byte that isn't 2B
-pub past : (xs : List ℕ) (k : ℕ) → k ≤ stretch xs → k < length xs → (get_or xs k 0 ≡ 0x2B → ⊥) → k + 1 ≤ stretch xs
-past [] k h l n = absurd (not-suc-le-zero l)
-past (x ∷ xs) zero h l n = rw (ne_eqb x 0x2B n) (omega arith)
-past (x ∷ xs) (suc k) h l n = go (eqb x 0x2B) h (λ j. past xs k j (omega arith) n)
+-- the blocks in front that are clear, and the stretch from there on
+pub past-blocks : (k : ℕ) (xs : List ℕ) (n : ℕ) → 16 * k ≤ length xs → n ≡ prefix_len clear (first_chunks 16 k xs) → 16 * n + stretch (drop (16 * n) xs) ≡ stretch xs
+past-blocks zero xs n h e = rw e (zero-add (stretch xs))
+past-blocks (suc k) xs n h e = go (prefix_len clear (first_chunks 16 k (drop 16 xs))) (clear (take 16 xs)) refl e (past-blocks k (drop 16 xs) (prefix_len clear (first_chunks 16 k (drop 16 xs))) (omega (arith, length-drop 16 xs)) refl)
   where
-    go : (t : Bool) → suc k ≤ (if t then 0 else suc (stretch xs)) → (k ≤ stretch xs → k + 1 ≤ stretch xs) → suc k + 1 ≤ (if t then 0 else suc (stretch xs))
-    go true h later = absurd (omega arith)
-    go false h later = let r = later (omega arith) in omega arith
+    go : (p : ℕ) (t : Bool) → clear (take 16 xs) ≡ t → n ≡ cond t (1 + p) 0 → 16 * p + stretch (drop (16 * p) (drop 16 xs)) ≡ stretch (drop 16 xs) → 16 * n + stretch (drop (16 * n) xs) ≡ stretch xs
+    go p false c e rest = rw e (zero-add (stretch xs))
+    go p true c e rest =
+        let long = length-take-le 16 xs (omega arith) in
+        let on = stretch_through (take 16 xs) (drop 16 xs) (clear-through (take 16 xs) c) in
+        let whole : take 16 xs ++ drop 16 xs ≡ xs = take-append-drop 16 xs in
+        let next : 16 * n ≡ 16 + 16 * p = omega arith in
+        rw (next, ← drop-drop (16 * p) 16 xs) (omega (arith, rw whole at on))
 
--- a block without 2B
-pub block : (bytes : List ℕ) (k : ℕ) → k + 16 ≤ length bytes → stretch (take 16 (drop k bytes)) ≡ 16 → k + 16 + stretch (drop (k + 16) bytes) ≡ k + stretch (drop k bytes)
-block bytes k h e =
-    let front = take 16 (drop k bytes) in
-    let long : length front ≡ 16 = length-take-le 16 (drop k bytes) (omega (arith, length-drop k bytes)) in
-    let whole : front ++ drop (k + 16) bytes ≡ drop k bytes = rw (← drop-drop 16 k bytes) (take-append-drop 16 (drop k bytes)) in
-    let on = stretch_through front (drop (k + 16) bytes) (e ∙ sym long) in
-    rw (← whole, on, long) (omega arith)
+-- where the first 2B stands, or else the length
+pub first-class : (xs : List ℕ) (n : ℕ) → n ≡ length xs → unwrap_or (cond (ltb (position_or_len is_class xs) (length xs)) (Some (position_or_len is_class xs)) None) n ≡ stretch xs
+first-class xs n e = rw (is_position_or_len stretch is_class refl (λ x xs. step (is_class x) xs) xs) (go (ltb (position_or_len is_class xs) (length xs)) refl)
+  where
+    step : (t : Bool) (xs : List ℕ) → (if t then 0 else suc (stretch xs)) ≡ cond t 0 (1 + stretch xs)
+    step true xs = refl
+    step false xs = omega arith
+
+    go : (t : Bool) → ltb (position_or_len is_class xs) (length xs) ≡ t → unwrap_or (cond t (Some (position_or_len is_class xs)) None) n ≡ position_or_len is_class xs
+    go true h = refl
+    go false h = let most = prefix_len-le-length (λ c. not (is_class c)) xs in omega (arith, ltb-false _ _ h)

@@ -7,7 +7,10 @@ use native.Mathlib.Omega.{arith}
 use native.Mathlib.Numerals.{add-one}
 use native.Mathlib.Nat.{add-zero, add-suc, suc-add, le_of_lt, zero-add, zero-mod, mod-add-mod}
 use lib.ListN.{length, get_or, take, drop, set, length-drop}
-use lib.Seq.{set-set, set_comm, sets, sets-eq, take-suc, take_all, take-add, take_at, drop_at, take-append-le, length-take-le, get_or-take, get_or-drop}
+use lib.Seq.{set-set, set_comm, sets, length-sets, sets-eq, paste, take-suc, take_all, take-add, take_at, drop_at, take-append-le, length-take-le}
+use Rattle.std.specs.List.{copy_within}
+use Rattle.std.proofs.lemmas.Slice.{put_mid-paste}
+use borrow.Rule.Slice.PartMut.{put_mid}
 use Rattle.part.specs.Text.{cycle}
 use Rattle.part.proofs.Cycles.{length-cycle, cycle_then, cycle-from}
 
@@ -22,16 +25,21 @@ module _ (a : List ℕ) (at : ℕ) (bytes : List ℕ) (k : ℕ) where
       ∙ joined a at (take k bytes) (get_or bytes k 0 ∷ [])
       ∙ ap (sets a at) (sym (take-suc bytes k 0 h) ∙ ap (λ (n : ℕ). take n bytes) (sym (add-one k)))
 
-  pub all_of : length bytes ≤ k → sets a at (take k bytes) ≡ sets a at bytes
-  all_of h = ap (sets a at) (take_all k bytes h)
-
 -- one run more, behind those before it
 pub more : (a b c : List ℕ) (i : ℕ) (xs ys : List ℕ) → b ≡ sets a i xs → c ≡ sets b (i + length xs) ys → c ≡ sets a i (xs ++ ys)
 more a b c i xs ys e f = rw (f, e) (joined a i xs ys)
 
--- two runs that are known to be others
-pub both_known : (a b c : List ℕ) (i : ℕ) (xs ys us vs : List ℕ) → b ≡ sets a i xs → c ≡ sets b (i + length xs) ys → xs ≡ us → ys ≡ vs → c ≡ sets a i (us ++ vs)
-both_known a b c i xs ys us vs e f g h = more a b c i xs ys e f ∙ ap (λ l. sets a i (l ++ ys)) g ∙ ap (λ l. sets a i (us ++ l)) h
+-- ---- as the library says it
+
+-- a copy
+pub pasted : (area : List ℕ) (at : ℕ) (bytes : List ℕ) (n : ℕ) → n ≤ length bytes → at + n ≤ length area → paste area at bytes n ≡ sets area at (take n bytes)
+pasted area at bytes n h k =
+    let long : length (take n bytes) ≡ n = length-take-le n bytes h in
+    sym (sets-eq (take n bytes) area at (omega arith) ∙ ap (λ (m : ℕ). take at area ++ take n bytes ++ drop (at + m) area) long)
+
+-- bytes put in the place of as many
+pub put : (area : List ℕ) (at k : ℕ) (ys bytes : List ℕ) → ys ≡ bytes → k ≡ length bytes → at + length bytes ≤ length area → put_mid at k area ys ≡ sets area at bytes
+put area at k ys bytes e n h = put_mid-paste at k area ys bytes (length bytes) e (sym n) refl ∙ pasted area at bytes (length bytes) (omega arith) h ∙ ap (sets area at) (take_all (length bytes) bytes (omega arith))
 
 -- ---- stores over earlier ones
 
@@ -39,7 +47,7 @@ early : (a : List ℕ) (i j y : ℕ) (xs : List ℕ) → i < j → set (sets a j
 early a i j y [] h = refl
 early a i j y (x ∷ xs) h = early (set a j x) i (suc j) y xs (omega arith) ∙ ap (λ l. sets l (suc j) xs) (set_comm a j i x y (λ e. omega arith))
 
-pub overwritten : (a : List ℕ) (i : ℕ) (xs ys : List ℕ) → length xs ≤ length ys → sets (sets a i xs) i ys ≡ sets a i ys
+overwritten : (a : List ℕ) (i : ℕ) (xs ys : List ℕ) → length xs ≤ length ys → sets (sets a i xs) i ys ≡ sets a i ys
 overwritten a i [] ys h = refl
 overwritten a i (x ∷ xs) [] h = absurd (omega arith)
 overwritten a i (x ∷ xs) (y ∷ ys) h =
@@ -84,27 +92,6 @@ there area at bytes n h k =
     let front : length (take at area) ≡ at = length-take-le at area (omega arith) in
     rw (sets-eq bytes area at h, append_assoc (take at area) bytes (drop (at + length bytes) area), drop_at (take at area) (bytes ++ drop (at + length bytes) area) at front) (take-append-le n bytes (drop (at + length bytes) area) k)
 
--- a copy of n bytes, one store after the other, reads what it does not write
-module _ (area : List ℕ) (first onto n : ℕ) (apart : first + n ≤ onto) (room : onto + n ≤ length area) where
-  abbrev pub copied : ℕ → List ℕ
-  copied k = sets area onto (take k (drop first area))
-
-  pub copy_one : (k : ℕ) → k < n → set (copied k) (onto + k) (get_or (copied k) (first + k) 0) ≡ copied (k + 1)
-  copy_one k h =
-      let source = drop first area in
-      let long = length-drop first area in
-      let l : length (take k source) ≡ k = length-take-le k source (omega arith) in
-      let behind = drop (onto + length (take k source)) area in
-      let before : take onto (copied k) ≡ take onto area =
-      rw (sets-eq (take k source) area onto (omega arith), append_assoc (take onto area) (take k source) behind)
-      (take_at (take onto area) (take k source ++ behind) onto (length-take-le onto area (omega arith))) in
-      let kept : get_or (copied k) (first + k) 0 ≡ get_or source k 0 =
-      sym (get_or-take onto (copied k) (first + k) 0 (omega arith))
-      ∙ ap (λ (xs : List ℕ). get_or xs (first + k) 0) before
-      ∙ get_or-take onto area (first + k) 0 (omega arith)
-      ∙ sym (get_or-drop first area k 0) in
-      rw kept (one_more area onto source k (omega arith))
-
 -- ---- the characters of a text that begins again: what is there goes on with itself from a whole number of rounds
 pub cycle_more : (t : List ℕ) (done more : ℕ) → done % length t ≡ 0 → more ≤ done → cycle t 0 done ++ take more (cycle t 0 done) ≡ cycle t 0 (done + more)
 cycle_more t done more e h =
@@ -116,13 +103,17 @@ cycle_more t done more e h =
 pub doubled : (n m : ℕ) → n % m ≡ 0 → (n + n) % m ≡ 0
 doubled n m e = sym (mod-add-mod n m n) ∙ rw e (rw zero-add e)
 
-pub rounds_step : (area : List ℕ) (at : ℕ) (t : List ℕ) (done more : ℕ) → at + done ≤ length area → done % length t ≡ 0 → more ≤ done
-    → sets (sets area at (cycle t 0 done)) (at + done) (take more (drop at (sets area at (cycle t 0 done)))) ≡ sets area at (cycle t 0 (done + more))
+pub rounds_step : (area : List ℕ) (at : ℕ) (t : List ℕ) (done more : ℕ) → at + done + more ≤ length area → done % length t ≡ 0 → more ≤ done
+    → copy_within (sets area at (cycle t 0 done)) at (at + more) (at + done) ≡ sets area at (cycle t 0 (done + more))
 rounds_step area at t done more h e k =
     let cs = cycle t 0 done in
+    let before = sets area at cs in
     let long : length cs ≡ done = length-cycle t 0 done in
-    let seen : take more (drop at (sets area at cs)) ≡ take more cs = there area at cs more (omega arith) (omega arith) in
-    ap (sets (sets area at cs) (at + done)) seen
-    ∙ ap (λ n. sets (sets area at cs) (at + n) (take more cs)) (sym long)
+    let kept : length before ≡ length area = length-sets area at cs in
+    let many : at + more - at ≡ more = omega arith in
+    ap (paste before (at + done) (drop at before)) many
+    ∙ pasted before (at + done) (drop at before) more (omega (arith, length-drop at before)) (omega arith)
+    ∙ ap (sets before (at + done)) (there area at cs more (omega arith) (omega arith))
+    ∙ ap (λ n. sets before (at + n) (take more cs)) (sym long)
     ∙ joined area at cs (take more cs)
     ∙ ap (sets area at) (cycle_more t done more e k)

@@ -1,21 +1,20 @@
 -- The rule book's characters, as a fold, and as the code walks them: along a line whose numbers are taken from the state once.
 -- Assumes nothing.
-use Prim.Native.Nat.{ℕ, zero, suc, ◌+◌, ◌-◌, ◌*◌, ◌%◌, ◌<◌, ◌≤◌}
+use Prim.Native.Nat.{ℕ, zero, suc, ◌+◌, ◌*◌, ◌%◌, ◌<◌}
 use mathlib.Core.Path.{◌≡◌, refl, sym, ◌∙◌}
 use mathlib.Core.Bool.{Bool, true, false, not, ◌&&◌, ◌||◌, and_assoc, and-true, and-false}
 use mathlib.Core.List.{List, [], ◌∷◌, ◌++◌}
 use native.Mathlib.Omega.{arith}
 use borrow.Author.Tests.{eqb-true}
-use lib.ListN.{length, take, drop, get_or, length-drop}
-use lib.Seq.{length-take-le, get_or-take, get_or-drop}
+use lib.ListN.{length, drop, get_or}
+use lib.Seq.{get_or-take, get_or-drop}
 use lib.Dec.{leb, eqb}
-use Rattle.part.specs.Numbers.{origin, ones}
+use Rattle.part.specs.Numbers.{origin}
 use Rattle.part.specs.Checks.{fault, ◌>>=◌}
 use Rattle.part.specs.States.{with_inline}
-use Rattle.part.specs.Presenting.{default, hides}
+use Rattle.part.specs.Presenting.{hides}
 use Rattle.part.specs.Text.{width_of, character, characters, cycle}
-use Rattle.part.specs.Text as text
-use Rattle.part.specs.Code.{baseline, width_in, stepped, walked}
+use Rattle.part.specs.Code.{baseline, row_in, line_in, width_in, stepped, walked}
 use Rattle.part.specs.declared.shapes.Descriptor.{Descriptor}
 use Rattle.part.specs.declared.shapes.State.{State}
 use Rattle.part.specs.declared.text.Line.{Line}
@@ -44,36 +43,12 @@ module _ (widths : List ℕ) (d : Descriptor) (s : State) where
 abbrev pub Bytes : List ℕ → Type 0
 Bytes cs = (k : ℕ) → get_or cs k 0 < 256
 
-pub bytes_take : (n : ℕ) (cs : List ℕ) → Bytes cs → Bytes (take n cs)
-bytes_take zero cs h k = omega arith
-bytes_take (suc n) [] h k = omega arith
-bytes_take (suc n) (c ∷ cs) h zero = h 0
-bytes_take (suc n) (c ∷ cs) h (suc k) = bytes_take n cs (λ j. h (suc j)) k
-
 -- the characters of a text that begins again are its own
 pub bytes-cycle : (t : List ℕ) (i m : ℕ) → Bytes t → Bytes (cycle t i m)
 unfolding cycle
 bytes-cycle t i zero h k = omega arith
 bytes-cycle t i (suc m) h zero = h (i % length t)
 bytes-cycle t i (suc m) h (suc k) = bytes-cycle t (i + 1) m h k
-
--- a row is the 256 widths of the state's font, and a line has the state's numbers
-pub record Follows (widths row : List ℕ) (d : Descriptor) (s : State) (l : Line) : Type 0 where
-  pub font : row ≡ take 256 (drop (256 * s.font) widths)
-  pub space : l.space ≡ default ones s.space (get_or row 0x40 0)
-  pub shown : l.shown ≡ not (hides d s)
-  pub limit : l.limit ≡ origin + d.size.i
-  pub plus : l.plus ≡ text.plus s
-  pub minus : l.minus ≡ text.minus s
-
--- the row as the code cuts it
-pub row_cut : (widths : List ℕ) (font f : ℕ) → f ≡ font → take (256 * f + 256 - 256 * f) (drop (256 * f) widths) ≡ take 256 (drop (256 * font) widths)
-row_cut widths font f e =
-    let n : 256 * font + 256 - 256 * font ≡ 256 = omega arith in
-    rw (e, n)
-
-pub row-length : (widths : List ℕ) (font : ℕ) → length widths ≡ 1024 → font ≤ 3 → length (take 256 (drop (256 * font) widths)) ≡ 256
-row-length widths font h k = length-take-le 256 (drop (256 * font) widths) (omega (arith, length-drop (256 * font) widths))
 
 -- the tests along I, where that along B is known
 seen : (h p q r u : Bool) → (h || (r && u)) ≡ true → (h || p && q && r && u) ≡ (not (not h) || p && q)
@@ -84,31 +59,35 @@ unseen : (h p q r u : Bool) → (h || (r && u)) ≡ false → (h || p && q && r 
 unseen true p q r u e = e
 unseen false p q r u e = rw (and_assoc (p && q) r u, e) (and-false (p && q))
 
--- Where B is on the sheet or nothing is shown, the characters go along the line.
-module _ (widths row : List ℕ) (d : Descriptor) (s : State) (l : Line) (follows : Follows widths row d s l) (e : baseline d s ≡ true) where
-  table : (c : ℕ) → c < 256 → get_or widths (256 * s.font + c) 0 ≡ get_or row c 0
-  table c h = rw (follows.font, get_or-take 256 (drop (256 * s.font) widths) c 0 h, get_or-drop (256 * s.font) widths c 0)
+-- the line of a state
+abbrev pub own_line : List ℕ → Descriptor → State → Line
+own_line widths d s = line_in d s (get_or (row_in widths s) 0x40 0) (hides d s)
 
-  same_width : (c : ℕ) → c < 256 → width_of widths s c ≡ width_in row l.space c
+-- Where B is on the sheet or nothing is shown, the characters go along it.
+module _ (widths : List ℕ) (d : Descriptor) (s : State) (e : baseline d s ≡ true) where
+  table : (c : ℕ) → c < 256 → get_or widths (256 * s.font + c) 0 ≡ get_or (row_in widths s) c 0
+  table c h = rw (get_or-take 256 (drop (256 * s.font) widths) c 0 h, get_or-drop (256 * s.font) widths c 0)
+
+  same_width : (c : ℕ) → c < 256 → width_of widths s c ≡ width_in (row_in widths s) (own_line widths d s).space c
   same_width c h = own (eqb c 0x40) refl
     where
-      own : (t : Bool) → eqb c 0x40 ≡ t → width_of widths s c ≡ width_in row l.space c
-      own true q = rw (q, follows.space, eqb-true c 0x40 q, table 0x40 (omega arith))
+      own : (t : Bool) → eqb c 0x40 ≡ t → width_of widths s c ≡ width_in (row_in widths s) (own_line widths d s).space c
+      own true q = rw (q, eqb-true c 0x40 q, table 0x40 (omega arith))
       own false q = rw (q, table c h)
 
-  same_step : (i c : ℕ) → c < 256 → character widths d s i c ≡ stepped row l i (width_in row l.space c)
+  same_step : (i c : ℕ) → c < 256 → character widths d s i c ≡ stepped (own_line widths d s) i (width_in (row_in widths s) (own_line widths d s).space c)
   unfolding character
   same_step i c h =
-      let w = width_in row l.space c in
+      let w = width_in (row_in widths s) (own_line widths d s).space c in
       let tests = seen (hides d s) (leb origin i) (leb (i + w) (origin + d.size.i)) (leb origin s.at.b) (leb (s.at.b + 0) (origin + d.size.b)) e in
-      rw (same_width c h, follows.shown, follows.limit, follows.plus, follows.minus, tests)
+      rw (same_width c h, tests)
 
-  pub characters-along : (i : ℕ) (cs : List ℕ) → Bytes cs → characters widths d s i cs ≡ walked row l i cs
+  pub characters-along : (i : ℕ) (cs : List ℕ) → Bytes cs → characters widths d s i cs ≡ walked (row_in widths s) (own_line widths d s) i cs
   unfolding characters walked
   characters-along i [] h = refl
   characters-along i (c ∷ cs) h =
-      let m = stepped row l i (width_in row l.space c) in
-      rw (characters, walked, same_step i c (h 0)) (after m (λ j. characters widths d s j cs) (λ j. walked row l j cs) (λ j. characters-along j cs (λ k. h (suc k))))
+      let m = stepped (own_line widths d s) i (width_in (row_in widths s) (own_line widths d s).space c) in
+      rw (characters, walked, same_step i c (h 0)) (after m (λ j. characters widths d s j cs) (λ j. walked (row_in widths s) (own_line widths d s) j cs) (λ j. characters-along j cs (λ k. h (suc k))))
 
 -- Where it is not, the first character is refused.
 pub characters_off : (widths : List ℕ) (d : Descriptor) (s : State) (i : ℕ) (cs : List ℕ) → baseline d s ≡ false → 0 < length cs → characters widths d s i cs ≡ fault 27 0

@@ -1,52 +1,136 @@
 -- How the code's numbers stand for the rule book's values: what the contracts inside this crate cite, and no rule.
-use Rattle.std.specs.Prelude.{ℕ, zero, suc, ◌+◌, ◌-◌, ◌/◌, ◌%◌, ◌<◌, ◌≤◌, ◌≡◌, Bool, true, not, ◌&&◌, ◌||◌, List, [], ◌∷◌, ◌++◌, length, take, drop, get_or, ltb, leb, eqb, if◌then◌else◌}
+use Rattle.std.specs.Prelude.{ℕ, ◌+◌, ◌-◌, ◌*◌, ◌<◌, ◌≤◌, ◌≡◌, ◌⊎◌, Result, Ok, Err, Bool, true, false, not, ◌&&◌, ◌||◌, List, [], ◌∷◌, ◌++◌, length, take, drop, get_or, ltb, leb, eqb, if◌then◌else◌, sum_by, All}
 use Rattle.std.specs.Borrow.{MutBor}
 use denote.Triple.Both.{Both}
 use Rattle.std.proofs.lemmas.List.Edits.{sets}
 use Rattle.part.specs.Numbers.{origin, last, ones, byte, word, little}
 use Rattle.part.specs.Checks.{Checked, fine, fault, refuse, require, require_at, starting_at, ◌>>=◌, ◌>>◌}
-use Rattle.part.specs.States.{point, state, with_inline, with_used}
+use Rattle.part.specs.States.{with_inline, with_used}
 use Rattle.part.specs.Ranges.{up_to, ◌∈◌, hold, descriptor_fields, state_fields}
 use Rattle.part.specs.Elements.{Element, Text, rule_width}
-use Rattle.part.specs.Types.{Lengths, types, row_of, all_but, ◌takes◌}
+use Rattle.part.specs.Types.{Lengths, types, row_of, all, all_but, ◌takes◌}
 use Rattle.part.specs.Reading.{Found, Piece, found, between}
 use Rattle.part.specs.Records.{Item, bytes_of, all_bytes}
 use Rattle.part.specs.Presenting.{default, moved, hides}
-use Rattle.part.specs.Text.{cycle}
+use Rattle.part.specs.Text.{cycle, plus, minus}
 use Rattle.part.specs.Place.{Effect, effect, place, shown_text, place_text, place_rule}
 use Rattle.part.specs.Part.{passed_by, elements_by}
 use Rattle.part.specs.declared.shapes.Descriptor.{Descriptor}
 use Rattle.part.specs.declared.shapes.State.{State}
-use Rattle.part.specs.declared.types.TypeRow.{TypeRow}
+use Rattle.part.specs.declared.faults.Fault.{Fault}
+use Rattle.part.specs.declared.faults.Fault.TheVariants.{WrongSizes, WrongState, WrongDescriptor, LongPart, CutSequence, NoClass, WrongLength, UnknownType, WrongValue, WrongSecond, WrongFont, WrongSuppression, OffSheet, OutOfRange, NoRoom}
+use Rattle.part.specs.declared.faults.Refusal.{Refusal}
+use Rattle.part.specs.declared.types.Kind.{Kind}
+use Rattle.part.specs.declared.types.Kind.TheVariants.{Ami, Amb, Rmi, Rmb, Bln, Sim, Sbi, Sia, Svi, Scfl, Stc, Sto, Bsu, Esu, Dir, Dbr, Trn, Rps, Nop}
+use Rattle.part.specs.declared.types.Span.{Span}
 use Rattle.part.specs.declared.reader.Read.{Read}
-use Rattle.part.specs.declared.reader.Read.TheVariants.{Characters, Sequence, Refused}
+use Rattle.part.specs.declared.reader.What.TheVariants.{Characters, Sequence}
 use Rattle.part.specs.declared.record.Head.{Head}
-use Rattle.part.specs.declared.run.Outcome.{Outcome}
 use Rattle.part.specs.declared.text.Line.{Line}
-use Rattle.part.specs.declared.presenting.Reached.{Reached}
 
 -- ---- refusals
 
--- a refusal as one number: its code, and 256 for each byte that it lies past the element's first; 0 is none
-abbrev pub verdict : {A : Type 0} → ℕ → A → Checked A
-verdict zero a = fine a
-verdict (suc n) a = fault (suc n % 256) (suc n / 256)
+-- document 01's code
+abbrev pub fault_code : Fault → ℕ
+fault_code WrongSizes = 10
+fault_code WrongState = 12
+fault_code WrongDescriptor = 15
+fault_code LongPart = 19
+fault_code CutSequence = 20
+fault_code NoClass = 21
+fault_code WrongLength = 22
+fault_code UnknownType = 23
+fault_code WrongValue = 24
+fault_code WrongSecond = 24
+fault_code WrongFont = 25
+fault_code WrongSuppression = 26
+fault_code OffSheet = 27
+fault_code OutOfRange = 28
+fault_code NoRoom = 29
 
--- Behind 2B D3 a sequence's LENGTH stands at 2, in a chain at 0. What performs a sequence counts as behind 2B D3, and only then is it
--- brought nearer by so many bytes; a fault at the element's start stays there.
+-- the byte that it points at, where parameters begin at an offset: LENGTH and TYPE stand in front of them, and D3 behind 2B; any other keeps the element's start
+abbrev pub place_of : ℕ → Fault → ℕ
+place_of from NoClass = 1
+place_of from WrongLength = from - 2
+place_of from UnknownType = from - 1
+place_of from WrongValue = from
+place_of from WrongSecond = from + 2
+place_of from WrongFont = from
+place_of from WrongSizes = 0
+place_of from WrongState = 0
+place_of from WrongDescriptor = 0
+place_of from LongPart = 0
+place_of from CutSequence = 0
+place_of from WrongSuppression = 0
+place_of from OffSheet = 0
+place_of from OutOfRange = 0
+place_of from NoRoom = 0
+
+abbrev pub refused_from : {A : Type 0} → ℕ → Fault → Checked A
+refused_from from why = fault (fault_code why) (place_of from why)
+
+-- A result as a check: behind 2B D3 a sequence's LENGTH stands at 2 and its parameters begin at 4. What performs a sequence counts so, and
+-- only then is it brought nearer, in a chain by two bytes; a fault at the element's start stays there.
+abbrev pub valued : {A : Type 0} → Result A Fault → Checked A
+valued (Ok a) = fine a
+valued (Err why) = refused_from 4 why
+
+-- the same, of what it leaves changed
+abbrev pub verdict : {A B : Type 0} → Result B Fault → A → Checked A
+verdict (Ok b) a = fine a
+verdict (Err why) a = refused_from 4 why
+
 abbrev pub nearer : {A : Type 0} → ℕ → Checked A → Checked A
 nearer by (fine a) = fine a
 nearer by (fault code at) = fault code (at - by)
 
+-- a number that fits its range, or all ones for the other value
+abbrev pub chosen : ℕ → ℕ → Bool → ℕ → Fault → Checked ℕ
+chosen all v fits other why = do
+  require_at (place_of 4 why) (fits || eqb v all) (fault_code why)
+  fine (default all v other)
+
 -- ---- the table of types
 
--- the LENGTHs of a row of the code's table
-abbrev pub lengths_in : TypeRow → Lengths
-lengths_in row = all_but row.1.least row.1.greatest row.1.hole_from row.1.hole_to
+abbrev pub function_of : Kind → ℕ
+function_of Ami = 0xC6
+function_of Amb = 0xD2
+function_of Rmi = 0xC8
+function_of Rmb = 0xD4
+function_of Bln = 0xD8
+function_of Sim = 0xC0
+function_of Sbi = 0xD0
+function_of Sia = 0xC2
+function_of Svi = 0xC4
+function_of Scfl = 0xF0
+function_of Stc = 0x74
+function_of Sto = 0xF6
+function_of Bsu = 0xF2
+function_of Esu = 0xF4
+function_of Dir = 0xE4
+function_of Dbr = 0xE6
+function_of Trn = 0xDA
+function_of Rps = 0xEE
+function_of Nop = 0xF8
 
--- the row takes the LENGTH of these parameters, with itself and TYPE two bytes more; and then something else
-abbrev pub sized : {A : Type 0} → TypeRow → List ℕ → Checked A → Checked A
-sized row p m = require_at 2 (lengths_in row takes (2 + length p)) 22 >> m
+-- the LENGTHs of its row in the rule book's table; `Rows.has_row` says that it has one
+abbrev pub lengths_of : Kind → Lengths
+lengths_of kind = elim (row_of types (function_of kind)) [ fine r ↦ r.lengths | fault code at ↦ all 0 0 ]
+
+abbrev pub lengths_in : Span → Lengths
+lengths_in row = all_but row.least row.greatest row.hole_from row.hole_to
+
+-- a function code's type, or that the rule book has no row for it
+abbrev pub Typed : ℕ → Result Kind Fault → Type 0
+Typed function (Ok kind) = function ≡ function_of kind
+Typed function (Err why) = (why ≡ UnknownType) × (row_of types function ≡ refuse 23)
+
+-- the type takes the LENGTH of these parameters, with itself and TYPE two bytes more; and then something else
+abbrev pub suited : Kind → List ℕ → Checked Unit
+suited kind p = require_at 2 (lengths_of kind takes (2 + length p)) 22
+
+abbrev pub sized : {A : Type 0} → Kind → List ℕ → Checked A → Checked A
+sized kind p m = suited kind p >> m
 
 -- a sequence whose LENGTH stands at an offset and whose body is whole: its row, its LENGTH, its values
 abbrev pub fitted : ℕ → ℕ → List ℕ → Checked Element
@@ -64,26 +148,26 @@ cut_short at code n = do
 
 -- ---- the element reader
 
-abbrev pub found_by : List ℕ → Read → Checked Found
-found_by bytes (Characters from size chains) = found (Text (between bytes from size)) size chains
-found_by bytes (Sequence function from size chains) = fitted (from - 2) function (between bytes from size) >>= λ e. found e size chains
-found_by bytes (Refused n) = verdict n (record { element = Text []; size = 0; chains = 0 })
+-- where parameters begin: behind 2B D3, LENGTH and TYPE; in a chain behind LENGTH and TYPE alone
+abbrev pub first_parameter : ℕ → ℕ
+first_parameter chain = if eqb chain 1 then 2 else 4
 
--- it ends within so many bytes, and has one at least; parameters begin at 2 to 4; a TRN is characters
+abbrev pub found_by : List ℕ → ℕ → Result Read Fault → Checked Found
+found_by bytes from (Ok e) =
+    let body = between bytes e.from e.size in
+    elim e.what [
+      | Characters ↦ found (Text body) e.size e.chains
+      | Sequence function ↦ fitted (e.from - 2) function body >>= λ x. found x e.size e.chains
+    ]
+found_by bytes from (Err why) = refused_from from why
+
+-- it ends within so many bytes, and has one at least; characters begin at 4 at most, parameters at 2 to 4; a TRN is characters
 abbrev pub Within : ℕ → Read → Type 0
-Within most (Characters from size chains) = (from ≤ size) × ((0 < size) × ((size ≤ most) × (chains ≤ 1)))
-Within most (Sequence function from size chains) = (from ≤ size) × ((0 < size) × ((size ≤ most) × ((chains ≤ 1) × (((2 ≤ from) × (from ≤ 4)) × (function ≡ 0xDA → ⊥)))))
-Within most (Refused n) = 0 < n
+Within most e =
+    (e.from ≤ e.size) × (0 < e.size) × (e.size ≤ most) × (e.chains ≤ 1) × (e.from ≤ 4)
+    × elim e.what [ Characters ↦ Unit | Sequence function ↦ (2 ≤ e.from) × (function ≡ 0xDA → ⊥) ]
 
--- ---- the working state: I, B, margin, increment, adjustment, direction, font, colour, variable space, suppression, chain, bytes used
-
-abbrev pub state_of : List ℕ → State
-state_of w =
-    state (point (get_or w 0 0) (get_or w 1 0)) (get_or w 2 0) (get_or w 3 0) (get_or w 4 0) (get_or w 5 0) (get_or w 6 0) (get_or w 7 0) (get_or w 8 0) (get_or w 9 0) (get_or w 10 0) (get_or w 11 0)
-
--- a state's numbers, with so many bytes used
-abbrev pub working_of : State → ℕ → List ℕ
-working_of s used = s.at.i ∷ s.at.b ∷ s.margin ∷ s.increment ∷ s.adjustment ∷ s.direction ∷ s.font ∷ s.colour ∷ s.space ∷ s.suppression ∷ s.chain ∷ used ∷ []
+-- ---- what an element does
 
 -- an effect's state, and its records stored at the bytes used
 abbrev pub state_after : Checked Effect → Checked State
@@ -97,37 +181,18 @@ inked area used (fault code at) = area
 abbrev pub Lent : Type 0
 Lent = Both (MutBor (List ℕ)) (MutBor (List ℕ))
 
--- a function that is lent the working state and the area does an effect: its verdict on the state that it leaves, and the records at the bytes used
-abbrev pub Does : (State → Checked Effect) → ℕ → Lent → Lent → Type 0
-Does what r w area =
-    (verdict r (state_of w.exit.now) ≡ state_after (what (state_of w.entry.now)))
-    × (area.exit.now ≡ inked area.entry.now (get_or w.entry.now 11 0) (what (state_of w.entry.now)))
+-- a function that is lent the state and the area does an effect: its verdict on the state that it leaves, and the records at the bytes used
+abbrev pub Does : (State → Checked Effect) → Result Unit Fault → Both (MutBor State) (MutBor State) → Lent → Type 0
+Does what r s area =
+    (verdict r s.exit.now ≡ state_after (what s.entry.now))
+    × (area.exit.now ≡ inked area.entry.now s.entry.now.used (what s.entry.now))
 
--- the descriptor's numbers, in its own order
-abbrev pub descriptor_of : List ℕ → Descriptor
-descriptor_of d = record {
-  size = point (get_or d 0 0) (get_or d 1 0);
-  initial = point (get_or d 2 0) (get_or d 3 0);
-  margin = get_or d 4 0;
-  increment = get_or d 5 0;
-  adjustment = get_or d 6 0;
-  direction = get_or d 7 0;
-  font = get_or d 8 0;
-  colour = get_or d 9 0;
-  rule = get_or d 10 0;
-  hidden = get_or d 11 0;
-}
-
-abbrev pub given_of : Descriptor → List ℕ
-given_of d = d.size.i ∷ d.size.b ∷ d.initial.i ∷ d.initial.b ∷ d.margin ∷ d.increment ∷ d.adjustment ∷ d.direction ∷ d.font ∷ d.colour ∷ d.rule ∷ d.hidden ∷ []
-
--- what placing relies on: the numbers of the working state in range, 1,024 widths, an area of at most 4,096 bytes that holds those used
-pub record Ready (table area w : List ℕ) : Type 0 where
-  pub twelve : length w ≡ 12
-  pub in_range : hold (state_fields (state_of w)) ≡ true
+-- what placing relies on: the numbers of the state in range, 1,024 widths, an area of at most 4,096 bytes that holds those used
+pub record Ready (table area : List ℕ) (s : State) : Type 0 where
+  pub in_range : hold (state_fields s) ≡ true
   pub widths : length table ≡ 1024
   pub small : length area ≤ 4096
-  pub fits : get_or w 11 0 ≤ length area
+  pub fits : s.used ≤ length area
 
 -- ---- records, where an area of so many bytes has room for them
 
@@ -197,46 +262,44 @@ pub record Plain (s : State) (size_i size_b end : ℕ) : Type 0 where
   pub range : end ≤ last
   pub ends : end ≤ origin + size_i + s.adjustment
 
--- its numbers, so that no sum of theirs wraps
-pub record Bounded (l : Line) : Type 0 where
-  pub space : l.space < 4294967296
-  pub limit : l.limit < 8589934592
-  pub plus : l.plus < 4294967296
-  pub minus : l.minus < 4294967296
+-- the last character's end, where it decides for all: in range, and on the sheet from its edge on or not shown
+pub record AtOnce (l : Line) (start end : ℕ) : Type 0 where
+  pub range : end ≤ last
+  pub ends : (l.shown ≡ false) ⊎ ((origin ≤ start) × (end + l.minus ≤ l.limit + l.plus))
 
-abbrev pub reached : Reached → Checked ℕ
-reached r = verdict r.fault r.at
+-- the widths of a state's font
+abbrev pub row_in : List ℕ → State → List ℕ
+row_in widths s = take 256 (drop (256 * s.font) widths)
+
+-- its line, from that row's width for X'40' and whether it is hidden
+abbrev pub line_in : Descriptor → State → ℕ → Bool → Line
+line_in d s own hidden = record { space = default ones s.space own; shown = not hidden; limit = origin + d.size.i; plus = plus s; minus = minus s }
 
 -- the width of X'40' is the line's, any other that in the font's row
 abbrev pub width_in : List ℕ → ℕ → ℕ → ℕ
 width_in row space c = if eqb c 0x40 then space else get_or row c 0
 
-module _ (row : List ℕ) (l : Line) where
-  abbrev pub stepped : ℕ → ℕ → Checked ℕ
-  stepped i width = do
-    require (not l.shown || leb origin i && leb (i + width) l.limit) 27
-    moved i (width + l.plus) l.minus
+-- one character: on the sheet unless it is hidden, or 27; then the advance
+abbrev pub stepped : Line → ℕ → ℕ → Checked ℕ
+stepped l i width = do
+  require (not l.shown || leb origin i && leb (i + width) l.limit) 27
+  moved i (width + l.plus) l.minus
 
+module _ (row : List ℕ) (l : Line) where
   unfoldable pub walked : ℕ → List ℕ → Checked ℕ
   walked i [] = fine i
-  walked i (c ∷ cs) = stepped i (width_in row l.space c) >>= λ j. walked j cs
+  walked i (c ∷ cs) = stepped l i (width_in row l.space c) >>= λ j. walked j cs
 
--- a number for each of some characters, together
-unfoldable pub sum_of : (ℕ → ℕ) → List ℕ → ℕ
-sum_of f [] = 0
-sum_of f (c ∷ cs) = f c + sum_of f cs
-
--- it is nowhere less than a number
+-- a number for each of some characters is nowhere less than another
 abbrev pub AtLeast : (ℕ → ℕ) → ℕ → List ℕ → Type 0
-AtLeast f least [] = Unit
-AtLeast f least (c ∷ cs) = (least ≤ f c) × AtLeast f least cs
+AtLeast f least = All (λ c. least ≤ f c)
 
--- their widths; those in the row alone, and how many are X'40'
+-- their widths together; those in the row alone, and how many are X'40'
 abbrev pub widths_of : List ℕ → ℕ → List ℕ → ℕ
-widths_of row space = sum_of (width_in row space)
+widths_of row space = sum_by (width_in row space)
 
 abbrev pub row_widths : List ℕ → List ℕ → ℕ
-row_widths row = sum_of (λ c. get_or row c 0)
+row_widths row = sum_by (λ c. get_or row c 0)
 
 -- a row with one width for all
 abbrev pub Fixed : List ℕ → Type 0
@@ -246,14 +309,9 @@ abbrev pub is_space : ℕ → ℕ
 is_space c = if eqb c 0x40 then 1 else 0
 
 abbrev pub spaces_in : List ℕ → ℕ
-spaces_in = sum_of is_space
+spaces_in = sum_by is_space
 
 -- ---- records
-
--- so many bytes of a number, the lower first
-abbrev pub low_first : ℕ → ℕ → List ℕ
-low_first zero v = []
-low_first (suc n) v = v % 256 ∷ low_first n (v / 256)
 
 -- the eight numbers that a text's record begins with
 abbrev pub head_of : State → ℕ → Head
@@ -280,18 +338,18 @@ abbrev pub Completed : Checked Effect → ℕ → ℕ → List ℕ → ℕ → S
 Completed (fine e) many used before count s area = (e.state ≡ s) × ((many ≡ count) × (take s.used area ≡ take used before ++ all_bytes e.items))
 Completed (fault code at) many used before count s area = ⊥
 
-abbrev pub Ran : Checked Effect → ℕ → ℕ → List ℕ → Outcome → State → List ℕ → Type 0
-Ran m many used before o s area =
-    elim o.fault [ zero ↦ Completed m many used before o.count s area | suc n ↦ m ≡ fault (suc n % 256) (o.at + suc n / 256) ]
+abbrev pub Ran : Checked Effect → ℕ → ℕ → List ℕ → Result ℕ Refusal → State → List ℕ → Type 0
+Ran m many used before (Ok count) s area = Completed m many used before count s area
+Ran m many used before (Err r) s area = m ≡ fault (fault_code r.why) r.at
 
 -- what is added to a larger area, from a place on: the records of an outcome, or nothing
 abbrev pub AddedAll : Checked Effect → ℕ → List ℕ → ℕ → ℕ → State → List ℕ → Type 0
 AddedAll (fine e) many area from count s after = (e.state ≡ s) × ((many ≡ count) × (after ≡ sets area from (all_bytes e.items)))
 AddedAll (fault code at) many area from count s after = ⊥
 
-abbrev pub Added : Checked Effect → ℕ → List ℕ → ℕ → Outcome → State → List ℕ → Type 0
-Added m many area from o s after =
-    elim o.fault [ zero ↦ AddedAll m many area from o.count s after | suc n ↦ (m ≡ fault (suc n % 256) (o.at + suc n / 256)) × (after ≡ area) ]
+abbrev pub Added : Checked Effect → ℕ → List ℕ → ℕ → Result ℕ Refusal → State → List ℕ → Type 0
+Added m many area from (Ok count) s after = AddedAll m many area from count s after
+Added m many area from (Err r) s after = (m ≡ fault (fault_code r.why) r.at) × (after ≡ area)
 
 -- ---- the tests before any element, by the lengths alone
 

@@ -1,11 +1,8 @@
 // Interprets one part of presentation text. What other crates may use is public, and asks nothing of a caller.
 #![tactic(auto)]
 
-pub mod bools;
 mod faults;
-mod given;
 pub mod interpret;
-mod little;
 mod moves;
 pub mod numbers;
 mod perform;
@@ -23,4 +20,3 @@ mod text;
 mod types;
 mod values;
 pub mod whole;
-mod working;

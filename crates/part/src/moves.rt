@@ -1,73 +1,59 @@
 // Moves of I and B.
-ghost use Rattle.std.specs.Prelude.{◌≡◌, ◌+◌, ◌≤◌, ◌<◌, length};
+ghost use Rattle.std.specs.Prelude.{◌≡◌};
+ghost use Rattle.part.specs.Numbers.{origin, word, signed};
 ghost use Rattle.part.specs.Presenting.{moved};
-ghost use Rattle.part.specs.Code.{verdict, reached};
-ghost use Rattle.part.specs.Working.{absolute, relative, line};
+ghost use Rattle.part.specs.Code.{valued, verdict, sized};
+ghost use Rattle.part.specs.Working.{absolute, line};
 
-use super::faults::WRONG_VALUE;
+use super::faults::Fault;
 use super::numbers::{LAST, ORIGIN};
-use super::presenting::Reached;
-use super::values::word_of;
-use super::working::{B, I, INCREMENT, MARGIN};
+use super::shapes::State;
+use super::types::Kind;
+use super::values::word_at;
 
 // A kept number moved forth and back; 28 beyond the range.
-fn moved_by(n: u32, forth: u32, back: u32) -> Reached
-    ensures { (reached result ≡ moved n forth back) × (result.at ≤ 65535) }
+#[tactic(auto, unfolding(crate::specs::Presenting::moved))]
+fn moved(n: u32, forth: u32, back: u32) -> Result<u32, Fault>
+    ensures { valued result ≡ moved n forth back }
 {
     let to = n as usize + forth as usize;
-    let least = back as usize;
-    if to < least {
-        return Reached { fault: 28, at: 0 };
-    }
-    let at = to - least;
+    let at = to.checked_sub(back as usize).ok_or(Fault::OutOfRange)?;
     if LAST < at {
-        return Reached { fault: 28, at: 0 };
+        return Err(Fault::OutOfRange);
     }
-    Reached { fault: 0, at }
+    Ok(at as u32)
 }
 
-// AMI, AMB: I, or B, becomes the number.
-pub fn absolute_move(w: &mut [u32], axis: usize, p: &[u8]) -> u32
-    requires { (axis < length w.old) × (2 ≤ length p.now) }
-    ensures { verdict result w.new ≡ absolute w.old axis p.now }
+// AMI, AMB: I, or B, becomes the number. This function and the next ones ask the type first: 22 where it doesn't take the LENGTH.
+pub fn absolute_move(kind: Kind, axis: &mut u32, p: &[u8]) -> Result<(), Fault>
+    ensures { verdict result axis.new ≡ sized kind p.now (absolute p.now) }
 {
-    let v = word_of(p);
+    kind.suits(p)?;
+    let v = word_at(p, 0, 0);
     if 0x7FFF < v {
-        return WRONG_VALUE;
+        return Err(Fault::WrongValue);
     }
-    w[axis] = ORIGIN + v;
-    0
+    *axis = ORIGIN + v;
+    Ok(())
 }
 
 // RMI, RMB: the signed number is added to I, or B.
-pub fn relative_move(w: &mut [u32], axis: usize, p: &[u8]) -> u32
-    requires { (axis < length w.old) × (2 ≤ length p.now) }
-    ensures { verdict result w.new ≡ relative w.old axis p.now }
+pub fn relative_move(kind: Kind, axis: &mut u32, p: &[u8]) -> Result<(), Fault>
+    ensures { verdict result axis.new ≡ sized kind p.now (moved axis.old (signed (word 0 p.now 0)) origin) }
 {
-    let v = word_of(p);
-    let forth = (v + ORIGIN) % 65536;
-    let to = moved_by(w[axis], forth, ORIGIN);
-    if to.fault != 0 {
-        return to.fault;
-    }
-    w[axis] = to.at as u32;
-    0
+    kind.suits(p)?;
+    let forth = (word_at(p, 0, 0) + ORIGIN) % 65536;
+    *axis = moved(*axis, forth, ORIGIN)?;
+    Ok(())
 }
 
 // BLN: I becomes the margin, B grows by the increment.
-pub fn begin_line(w: &mut [u32]) -> u32
-    requires { length w.old ≡ 12 }
-    ensures { verdict result w.new ≡ line w.old }
+pub fn begin_line(kind: Kind, s: &mut State, p: &[u8]) -> Result<(), Fault>
+    ensures { verdict result s.new ≡ sized kind p.now (line s.old) }
 {
-    let i = moved_by(ORIGIN, w[MARGIN], 0);
-    if i.fault != 0 {
-        return i.fault;
-    }
-    let b = moved_by(w[B], w[INCREMENT], 0);
-    if b.fault != 0 {
-        return b.fault;
-    }
-    w[I] = i.at as u32;
-    w[B] = b.at as u32;
-    0
+    kind.suits(p)?;
+    let i = moved(ORIGIN, s.margin, 0)?;
+    s.at.b = moved(s.at.b, s.increment, 0)?;
+    s.at.i = i;
+    Ok(())
 }

@@ -1,31 +1,22 @@
-// What lies on the sheet, what is hidden, and a place that is reached.
-ghost use Rattle.std.specs.Prelude.{◌≡◌, ◌&&◌, not, ◌+◌, eqb, leb};
+// What lies on the sheet, and what is hidden.
+ghost use Rattle.std.specs.Prelude.{◌≡◌, ◌&&◌, ◌+◌, leb};
 ghost use Rattle.part.specs.Numbers.{origin};
+ghost use Rattle.part.specs.Presenting.{hides};
 
-use super::bools::both;
-
-// As `numbers::ORIGIN`, for sums.
-pub const ORIGIN: usize = 32768;
-
-// Where a move or some characters come to stand; or a refusal.
-#[derive(Clone, Copy)]
-pub struct Reached {
-    pub fault: u32,
-    pub at: usize,
-}
+use super::numbers::ORIGIN;
+use super::shapes::{Descriptor, State};
 
 // Whether the open suppression, if any, is the hidden one.
-pub fn is_hidden(suppression: u32, hidden: u32) -> bool
-    ensures { result ≡ (not (eqb suppression 0) && eqb suppression hidden) }
+pub fn is_hidden(d: &Descriptor, s: &State) -> bool
+    ensures { result ≡ hides d.now s.now }
 {
-    both(suppression != 0, suppression == hidden)
+    (s.suppression != 0) & (s.suppression == d.hidden)
 }
 
 // Whether what starts at a number and reaches so far lies in 0 to a size.
 pub fn within(start: u32, reach: u32, size: u32) -> bool
     ensures { result ≡ (leb origin start && leb (start + reach) (origin + size)) }
 {
-    let from = start as usize;
-    let to = from + reach as usize;
-    both(ORIGIN <= from, to <= ORIGIN + size as usize)
+    let end = u64::from(start) + u64::from(reach);
+    (ORIGIN <= start) & (end <= u64::from(ORIGIN) + u64::from(size))
 }

@@ -2,7 +2,6 @@
 ghost use Rattle.std.specs.Prelude.{◌≡◌, ◌&&◌, leb};
 ghost use Rattle.part.specs.Ranges.{colours, ◌∈◌, hold, descriptor_fields, state_fields};
 
-use super::bools::{both, either};
 use super::numbers::ONES;
 use super::shapes::{Descriptor, State};
 
@@ -10,48 +9,48 @@ use super::shapes::{Descriptor, State};
 fn is_size(n: u32) -> bool
     ensures { result ≡ (leb 1 n && leb n 32767) }
 {
-    both(1 <= n, n <= 32767)
+    (1 <= n) & (n <= 32767)
 }
 
 // Whether a number is a colour of the descriptor's range.
 pub fn is_colour(v: u32) -> bool
     ensures { result ≡ (v ∈ colours) }
 {
-    either(either(v == 0, v == 0xFF00), v == 0xFF07)
+    (v == 0) | (v == 0xFF00) | (v == 0xFF07)
 }
 
-// Whether every number of a descriptor is in its range, from the last to the first.
+// Whether every number of a descriptor is in its range. Tested from the last to the first, which the back end makes better code of.
 pub fn descriptor_holds(d: Descriptor) -> bool
     ensures { result ≡ hold (descriptor_fields d) }
 {
-    let ok = both(d.hidden <= 127, true);
-    let ok = both(d.rule <= 192, ok);
-    let ok = both(is_colour(d.colour), ok);
-    let ok = both(d.font <= 3, ok);
-    let ok = both(d.direction <= 1, ok);
-    let ok = both(d.adjustment <= 4095, ok);
-    let ok = both(d.increment <= 32767, ok);
-    let ok = both(d.margin <= 32767, ok);
-    let ok = both(d.initial.b <= 32767, ok);
-    let ok = both(d.initial.i <= 32767, ok);
-    let ok = both(is_size(d.size.b), ok);
-    both(is_size(d.size.i), ok)
+    (d.hidden <= 127)
+        & (d.rule <= 192)
+        & is_colour(d.colour)
+        & (d.font <= 3)
+        & (d.direction <= 1)
+        & (d.adjustment <= 4095)
+        & (d.increment <= 32767)
+        & (d.margin <= 32767)
+        & (d.initial.b <= 32767)
+        & (d.initial.i <= 32767)
+        & is_size(d.size.b)
+        & is_size(d.size.i)
 }
 
 // The same for a state.
 pub fn state_holds(s: State) -> bool
     ensures { result ≡ hold (state_fields s) }
 {
-    let ok = both(s.used <= 4096, true);
-    let ok = both(s.chain <= 1, ok);
-    let ok = both(s.suppression <= 127, ok);
-    let ok = both(either(s.space <= 4095, s.space == ONES), ok);
-    let ok = both(is_colour(s.colour), ok);
-    let ok = both(s.font <= 3, ok);
-    let ok = both(s.direction <= 1, ok);
-    let ok = both(s.adjustment <= 4095, ok);
-    let ok = both(s.increment <= 32767, ok);
-    let ok = both(s.margin <= 32767, ok);
-    let ok = both(s.at.b <= 65535, ok);
-    both(s.at.i <= 65535, ok)
+    (s.used <= 4096)
+        & (s.chain <= 1)
+        & (s.suppression <= 127)
+        & ((s.space <= 4095) | (s.space == ONES))
+        & is_colour(s.colour)
+        & (s.font <= 3)
+        & (s.direction <= 1)
+        & (s.adjustment <= 4095)
+        & (s.increment <= 32767)
+        & (s.margin <= 32767)
+        & (s.at.b <= 65535)
+        & (s.at.i <= 65535)
 }

@@ -1,28 +1,25 @@
 // Rules: DIR and DBR.
-ghost use Rattle.std.specs.Prelude.{◌≡◌, ◌&&◌, ◌+◌, ◌≤◌, ◌<◌, leb, length};
-ghost use Rattle.part.specs.Numbers.{origin};
-ghost use Rattle.part.specs.Ranges.{up_to, ◌∈◌};
+ghost use Rattle.std.specs.Prelude.{◌≡◌, ◌≤◌, length};
 ghost use Rattle.part.specs.Elements.{rule_width};
-ghost use Rattle.part.specs.Records.{ink};
-ghost use Rattle.part.specs.Place.{along, shown_rule};
-ghost use Rattle.part.specs.Code.{Does, recorded, ruled, descriptor_of};
+ghost use Rattle.part.specs.Presenting.{on_sheet};
+ghost use Rattle.part.specs.Place.{along, place_rule, shown_rule};
+ghost use Rattle.part.specs.Code.{Does, recorded, roomed_in, ruled, sized};
 
-use super::bools::{both, either};
-use super::faults::{WRONG_VALUE, WRONG_WIDTH};
-use super::given::{DEFAULT_RULE, HIDDEN, SIZE_B, SIZE_I};
-use super::numbers::{ONES, wide};
+use super::faults::Fault;
+use super::numbers::{ONES, ORIGIN};
 use super::presenting::{is_hidden, within};
 use super::record::{Head, put_head};
+use super::shapes::{Descriptor, State};
+use super::types::Kind;
 use super::values::{byte_at, or_default, word_at};
-use super::working::{B, COLOUR, I, SUPPRESSION, USED};
 
-// Whether a rule's length, width and fraction are in range.
-fn rule_values(len: u32, width: u32, fraction: u32) -> bool
-    ensures { result ≡ (len ∈ up_to 0x7FFF && rule_width width fraction) }
+// Whether a rule's width and fraction are in range.
+fn is_width(width: u32, fraction: u32) -> bool
+    ensures { result ≡ rule_width width fraction }
 {
-    let given = both(width <= 0xC0, fraction == 0);
-    let default = both(width == ONES, fraction == 0xFF);
-    both(len <= 0x7FFF, either(given, default))
+    let given = (width <= 0xC0) & (fraction == 0);
+    let default = (width == ONES) & (fraction == 0xFF);
+    given | default
 }
 
 // How far a rule reaches along I: DIR its length, DBR its width; along B the other way round.
@@ -33,72 +30,87 @@ fn reach(mark: u32, len: u32, width: u32) -> u32
 }
 
 // Whether a rule at I and B starts and ends on the sheet.
-fn fits_sheet(size_i: u32, size_b: u32, i: u32, b: u32, mark: u32, len: u32, width: u32) -> bool
-    ensures { result ≡ (leb origin i && leb (i + along mark len width) (origin + size_i) && leb origin b && leb (b + along mark width len) (origin + size_b)) }
+fn fits_sheet(d: &Descriptor, s: &State, mark: u32, len: u32, width: u32) -> bool
+    ensures { result ≡ on_sheet d.now s.now.at (along mark len width) (along mark width len) }
 {
-    let across = within(i, reach(mark, len, width), size_i);
-    let down = within(b, reach(mark, width, len), size_b);
-    both(across, down)
-}
-
-// Whether a rule makes marks: one of no length or no width doesn't.
-fn has_ink(len: u32, width: u32) -> bool
-    ensures { result ≡ ink len width }
-{
-    both(len != 0, width != 0)
+    let across = within(s.at.i, reach(mark, len, width), d.size.i);
+    let down = within(s.at.b, reach(mark, width, len), d.size.b);
+    across & down
 }
 
 // The record of a rule at the working state's place, if there is room.
-fn record_rule(area: &mut [u8], w: &mut [u32], mark: u32, len: u32, width: u32) -> u32
-    requires { (length w.old ≡ 12) × (length area.old ≤ 4096) }
-    ensures { Does (λ s. recorded (length area.old) s (shown_rule s mark len width)) result w area }
+#[tactic(auto, unfolding(crate::specs::Records::bytes_of))]
+fn record_rule(area: &mut [u8], s: &mut State, mark: u32, len: u32, width: u32) -> Result<(), Fault>
+    requires { length area.old ≤ 4096 }
+    ensures { Does (λ s. recorded (length area.old) s (shown_rule s mark len width)) result s area }
 {
-    let used = wide(w[USED]);
+    let used = s.used as usize;
     let end = used + 16;
     if area.len() < end {
-        return 29;
+        return Err(Fault::NoRoom);
     }
-    let i = wide(w[I]);
-    let b = wide(w[B]);
-    let colour = wide(w[COLOUR]);
     let h = Head {
         len: 16,
         kind: 2,
-        i: i + 32768,
-        b: b + 32768,
-        first: mark as usize,
-        second: colour,
-        third: len as usize,
-        fourth: width as usize,
+        i: s.at.i.wrapping_add(ORIGIN),
+        b: s.at.b.wrapping_add(ORIGIN),
+        first: mark,
+        second: s.colour,
+        third: len,
+        fourth: width,
     };
     put_head(area, used, h);
-    w[USED] = end as u32;
-    0
+    s.used = end as u32;
+    Ok(())
 }
 
-// A rule: 24, 27, and with ink 29.
-pub fn draw_rule(mark: u32, p: &[u8], area: &mut [u8], d: &[u32; 12], w: &mut [u32]) -> u32
-    requires { (length w.old ≡ 12) × (length area.old ≤ 4096) }
-    ensures { Does (λ s. ruled (length area.old) (descriptor_of d.now) s mark p.now) result w area }
+// A rule of a length and a width: 27, and with ink 29.
+#[tactic(auto, unfolding(crate::specs::Place::place_rule))]
+fn place_rule(
+    area: &mut [u8],
+    d: &Descriptor,
+    s: &mut State,
+    mark: u32,
+    len: u32,
+    width: u32,
+) -> Result<(), Fault>
+    requires { length area.old ≤ 4096 }
+    ensures { Does (λ s. roomed_in (length area.old) s (place_rule d.now s mark len width)) result s area }
 {
+    if is_hidden(d, s) {
+        return Ok(());
+    }
+    if !fits_sheet(d, s, mark, len, width) {
+        return Err(Fault::OffSheet);
+    }
+    // a rule of no length or no width makes no marks
+    if (len == 0) | (width == 0) {
+        return Ok(());
+    }
+    record_rule(area, s, mark, len, width)
+}
+
+// DIR, DBR: 24, and then the rule.
+pub fn draw_rule(
+    kind: Kind,
+    mark: u32,
+    p: &[u8],
+    area: &mut [u8],
+    d: &Descriptor,
+    s: &mut State,
+) -> Result<(), Fault>
+    requires { length area.old ≤ 4096 }
+    ensures { Does (λ s. sized kind p.now (ruled (length area.old) d.now s mark p.now)) result s area }
+{
+    kind.suits(p)?;
     let len = word_at(p, 0, 0);
     let given = word_at(p, 2, 0xFF);
-    let fraction = byte_at(p, 4, 0xFF);
-    if !rule_values(len, given, fraction) {
+    // one test where both are right, which a test for each would slow
+    if !((len <= 0x7FFF) & is_width(given, byte_at(p, 4, 0xFF))) {
         if 0x7FFF < len {
-            return WRONG_VALUE;
+            return Err(Fault::WrongValue);
         }
-        return WRONG_WIDTH;
+        return Err(Fault::WrongSecond);
     }
-    let width = or_default(ONES, given, d[DEFAULT_RULE]);
-    if is_hidden(w[SUPPRESSION], d[HIDDEN]) {
-        return 0;
-    }
-    if !fits_sheet(d[SIZE_I], d[SIZE_B], w[I], w[B], mark, len, width) {
-        return 27;
-    }
-    if !has_ink(len, width) {
-        return 0;
-    }
-    record_rule(area, w, mark, len, width)
+    place_rule(area, d, s, mark, len, or_default(ONES, given, d.rule))
 }

@@ -1,112 +1,114 @@
 // Modal values, and suppressions.
-ghost use Rattle.std.specs.Prelude.{◌≡◌, ◌≤◌, ◌<◌, length};
+ghost use Rattle.std.specs.Prelude.{◌≡◌};
 ghost use Rattle.part.specs.Ranges.{up_to, colours};
-ghost use Rattle.part.specs.Code.{verdict};
-ghost use Rattle.part.specs.Working.{setting, font_setting, adjusting, oriented, beginning, ending};
+ghost use Rattle.part.specs.Code.{valued, verdict, sized, chosen};
+ghost use Rattle.part.specs.Working.{setting, font_setting, adjusting, oriented, identified, beginning, ending};
 
-use super::bools::{both, either};
-use super::faults::{WRONG_AXIS, WRONG_DIRECTION, WRONG_FONT, WRONG_VALUE};
+use super::faults::Fault;
 use super::numbers::ONES;
 use super::ranges::is_colour;
-use super::values::{byte_at, or_default, word_at, word_of};
-use super::working::{ADJUSTMENT, COLOUR, DIRECTION, FONT, SUPPRESSION};
+use super::shapes::{Descriptor, State};
+use super::types::Kind;
+use super::values::{byte_at, or_default, word_at};
+
+// A number that fits its range, or all ones for the other value.
+fn chosen(all: u32, v: u32, fits: bool, other: u32, why: Fault) -> Result<u32, Fault>
+    ensures { valued result ≡ chosen all v fits other why }
+{
+    if fits | (v == all) {
+        return Ok(or_default(all, v, other));
+    }
+    Err(why)
+}
 
 // SIM, SBI, SVI: a number up to `most`, or all ones for the other value.
-pub fn set_number(w: &mut [u32], at: usize, p: &[u8], most: u32, other: u32) -> u32
-    requires { (at < length w.old) × (2 ≤ length p.now) }
-    ensures { verdict result w.new ≡ setting w.old at p.now (up_to most) other }
+pub fn set_number(kind: Kind, place: &mut u32, p: &[u8], most: u32, other: u32) -> Result<(), Fault>
+    ensures { verdict result place.new ≡ sized kind p.now (setting p.now (up_to most) other) }
 {
-    let v = word_of(p);
-    if either(v <= most, v == ONES) {
-        w[at] = or_default(ONES, v, other);
-        return 0;
-    }
-    WRONG_VALUE
+    kind.suits(p)?;
+    let v = word_at(p, 0, 0);
+    *place = chosen(ONES, v, v <= most, other, Fault::WrongValue)?;
+    Ok(())
 }
 
 // STC.
-pub fn set_color(w: &mut [u32], p: &[u8], other: u32) -> u32
-    requires { (length w.old ≡ 12) × (2 ≤ length p.now) }
-    ensures { verdict result w.new ≡ setting w.old 7 p.now colours other }
+pub fn set_color(kind: Kind, colour: &mut u32, p: &[u8], other: u32) -> Result<(), Fault>
+    ensures { verdict result colour.new ≡ sized kind p.now (setting p.now colours other) }
 {
-    let v = word_of(p);
-    if either(is_colour(v), v == ONES) {
-        w[COLOUR] = or_default(ONES, v, other);
-        return 0;
-    }
-    WRONG_VALUE
+    kind.suits(p)?;
+    let v = word_at(p, 0, 0);
+    *colour = chosen(ONES, v, is_colour(v), other, Fault::WrongValue)?;
+    Ok(())
 }
 
 // SCFL.
-pub fn set_font(w: &mut [u32], p: &[u8], other: u32) -> u32
-    requires { length w.old ≡ 12 }
-    ensures { verdict result w.new ≡ font_setting w.old p.now other }
+pub fn set_font(kind: Kind, font: &mut u32, p: &[u8], other: u32) -> Result<(), Fault>
+    ensures { verdict result font.new ≡ sized kind p.now (font_setting p.now other) }
 {
+    kind.suits(p)?;
     let f = byte_at(p, 0, 0);
-    if either(f <= 3, f == 0xFF) {
-        w[FONT] = or_default(0xFF, f, other);
-        return 0;
-    }
-    WRONG_FONT
+    *font = chosen(0xFF, f, f <= 3, other, Fault::WrongFont)?;
+    Ok(())
 }
 
 // SIA: amount and direction default each alone.
-pub fn set_adjustment(w: &mut [u32], p: &[u8], amount: u32, direction: u32) -> u32
-    requires { length w.old ≡ 12 }
-    ensures { verdict result w.new ≡ adjusting w.old p.now amount direction }
+pub fn set_adjustment(kind: Kind, s: &mut State, p: &[u8], d: &Descriptor) -> Result<(), Fault>
+    ensures { verdict result s.new ≡ sized kind p.now (adjusting d.now s.old p.now) }
 {
+    kind.suits(p)?;
     let v = word_at(p, 0, 0);
     let to = byte_at(p, 2, 0);
-    let suits = either(v <= 0xFFF, v == ONES);
-    if both(suits, either(to <= 1, to == 0xFF)) {
-        w[ADJUSTMENT] = or_default(ONES, v, amount);
-        w[DIRECTION] = or_default(0xFF, to, direction);
-        return 0;
-    }
-    if suits { WRONG_DIRECTION } else { WRONG_VALUE }
+    let amount = chosen(ONES, v, v <= 0xFFF, d.adjustment, Fault::WrongValue)?;
+    s.direction = chosen(0xFF, to, to <= 1, d.direction, Fault::WrongSecond)?;
+    s.adjustment = amount;
+    Ok(())
 }
 
 // STO has no effect: its one orientation is taken.
-pub fn orientation(p: &[u8]) -> u32
-    ensures { verdict result tt ≡ oriented p.now }
+pub fn orientation(kind: Kind, p: &[u8]) -> Result<(), Fault>
+    ensures { verdict result tt ≡ sized kind p.now (oriented p.now) }
 {
+    kind.suits(p)?;
     let i = word_at(p, 0, 0);
     let b = word_at(p, 2, 0);
-    let suits = either(i == 0, i == ONES);
-    if both(suits, either(b == 0x2D00, b == ONES)) {
-        return 0;
+    let _ = chosen(ONES, i, i == 0, 0, Fault::WrongValue)?;
+    let _ = chosen(ONES, b, b == 0x2D00, 0, Fault::WrongSecond)?;
+    Ok(())
+}
+
+// A suppression's id, 1 to X'7F'.
+fn local_id(p: &[u8]) -> Result<u32, Fault>
+    ensures { valued result ≡ identified p.now }
+{
+    let id = byte_at(p, 0, 0);
+    if (1 <= id) & (id <= 0x7F) {
+        return Ok(id);
     }
-    if suits { WRONG_AXIS } else { WRONG_VALUE }
+    Err(Fault::WrongValue)
 }
 
 // BSU: while one is open, 26.
-pub fn begin_suppression(w: &mut [u32], p: &[u8]) -> u32
-    requires { length w.old ≡ 12 }
-    ensures { verdict result w.new ≡ beginning w.old p.now }
+pub fn begin_suppression(kind: Kind, current: &mut u32, p: &[u8]) -> Result<(), Fault>
+    ensures { verdict result current.new ≡ sized kind p.now (beginning current.old p.now) }
 {
-    let id = byte_at(p, 0, 0);
-    if both(1 <= id, id <= 0x7F) {
-        if w[SUPPRESSION] == 0 {
-            w[SUPPRESSION] = id;
-            return 0;
-        }
-        return 26;
+    kind.suits(p)?;
+    let id = local_id(p)?;
+    if *current != 0 {
+        return Err(Fault::WrongSuppression);
     }
-    WRONG_VALUE
+    *current = id;
+    Ok(())
 }
 
 // ESU: of another than the open one, 26.
-pub fn end_suppression(w: &mut [u32], p: &[u8]) -> u32
-    requires { length w.old ≡ 12 }
-    ensures { verdict result w.new ≡ ending w.old p.now }
+pub fn end_suppression(kind: Kind, current: &mut u32, p: &[u8]) -> Result<(), Fault>
+    ensures { verdict result current.new ≡ sized kind p.now (ending current.old p.now) }
 {
-    let id = byte_at(p, 0, 0);
-    if both(1 <= id, id <= 0x7F) {
-        if w[SUPPRESSION] == id {
-            w[SUPPRESSION] = 0;
-            return 0;
-        }
-        return 26;
+    kind.suits(p)?;
+    let id = local_id(p)?;
+    if *current != id {
+        return Err(Fault::WrongSuppression);
     }
-    WRONG_VALUE
+    *current = 0;
+    Ok(())
 }

@@ -2,7 +2,7 @@
 
 // A place on the sheet: I along the lines, B down the page.
 #[repr(C)]
-#[derive(Clone, Copy, PartialEq, Eq, Default)]
+#[derive(Clone, Copy, PartialEq, Eq, Debug, Default)]
 pub struct Point {
     pub i: u32,
     pub b: u32,
@@ -10,7 +10,7 @@ pub struct Point {
 
 // What a job was opened with. Its points are plain numbers, with no origin.
 #[repr(C)]
-#[derive(Clone, Copy, PartialEq, Eq, Default)]
+#[derive(Clone, Copy, PartialEq, Eq, Debug, Default)]
 pub struct Descriptor {
     pub size: Point,
     pub initial: Point,
@@ -26,7 +26,7 @@ pub struct Descriptor {
 
 // Where a job stands.
 #[repr(C)]
-#[derive(Clone, Copy, PartialEq, Eq)]
+#[derive(Clone, Copy, PartialEq, Eq, Debug)]
 pub struct State {
     pub at: Point,
     pub margin: u32,
@@ -43,7 +43,7 @@ pub struct State {
 
 // A code and two numbers.
 #[repr(C)]
-#[derive(Clone, Copy, PartialEq, Eq)]
+#[derive(Clone, Copy, PartialEq, Eq, Debug)]
 pub struct Answer {
     pub code: u32,
     pub first: u32,
@@ -52,7 +52,7 @@ pub struct Answer {
 
 // The answer to a part, and the state to go on from.
 #[repr(C)]
-#[derive(Clone, Copy, PartialEq, Eq)]
+#[derive(Clone, Copy, PartialEq, Eq, Debug)]
 pub struct Interpreted {
     pub answer: Answer,
     pub state: State,

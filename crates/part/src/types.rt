@@ -1,13 +1,37 @@
-// The table of types: for each TYPE the LENGTHs that it takes.
-ghost use Rattle.std.specs.Prelude.{◌≡◌, ◌+◌, ◌≤◌, length};
+// The table of types: each TYPE without its low bit, and the LENGTHs that it takes.
+ghost use Rattle.std.specs.Prelude.{◌≡◌, ◌+◌, ◌≤◌, ℕ};
 ghost use Rattle.part.specs.Ranges.{◌to◌, ◌∈◌};
-ghost use Rattle.part.specs.Types.{function, chaining, ◌takes◌};
-ghost use Rattle.part.specs.Code.{verdict, lengths_in, cut_short};
+ghost use Rattle.part.specs.Types.{all, ◌takes◌};
+ghost use Rattle.part.specs.Code.{verdict, refused_from, Typed, suited, lengths_of, lengths_in, cut_short};
 
-use super::bools::both;
+use super::faults::Fault;
+
+// The nineteen types, in the paper's order.
+#[derive(Clone, Copy, PartialEq, Eq, Debug)]
+pub enum Kind {
+    Ami,
+    Amb,
+    Rmi,
+    Rmb,
+    Bln,
+    Sim,
+    Sbi,
+    Sia,
+    Svi,
+    Scfl,
+    Stc,
+    Sto,
+    Bsu,
+    Esu,
+    Dir,
+    Dbr,
+    Trn,
+    Rps,
+    Nop,
+}
 
 // LENGTHs from the least to the greatest, but for those of a hole (0 and 0: none).
-#[derive(Clone, Copy)]
+#[derive(Clone, Copy, PartialEq, Eq, Debug)]
 pub struct Span {
     pub least: u8,
     pub greatest: u8,
@@ -15,45 +39,19 @@ pub struct Span {
     pub hole_to: u8,
 }
 
-// A row: TYPE without its low bit, and its LENGTHs.
-#[derive(Clone, Copy)]
-pub struct TypeRow(pub u8, pub Span);
-
-// A TYPE byte taken apart: the function code, and 1 where it chains the next sequence.
-#[derive(Clone, Copy)]
-pub struct Kind {
-    pub function: u8,
-    pub chains: u8,
+// All LENGTHs from one to another.
+const fn all(least: u8, greatest: u8) -> Span
+    ensures { lengths_in result ≡ all least greatest }
+{
+    Span {
+        least,
+        greatest,
+        hole_from: 0,
+        hole_to: 0,
+    }
 }
 
-const TWO: Span = Span {
-    least: 2,
-    greatest: 2,
-    hole_from: 0,
-    hole_to: 0,
-};
-
-const THREE: Span = Span {
-    least: 3,
-    greatest: 3,
-    hole_from: 0,
-    hole_to: 0,
-};
-
-const FOUR: Span = Span {
-    least: 4,
-    greatest: 4,
-    hole_from: 0,
-    hole_to: 0,
-};
-
-const FOUR_OR_FIVE: Span = Span {
-    least: 4,
-    greatest: 5,
-    hole_from: 0,
-    hole_to: 0,
-};
-
+// DIR and DBR: with no width, or with all of it.
 const FOUR_OR_SEVEN: Span = Span {
     least: 4,
     greatest: 7,
@@ -61,77 +59,85 @@ const FOUR_OR_SEVEN: Span = Span {
     hole_to: 6,
 };
 
-const SIX: Span = Span {
-    least: 6,
-    greatest: 6,
-    hole_from: 0,
-    hole_to: 0,
-};
+impl TryFrom<u8> for Kind {
+    type Error = Fault;
 
-const TWO_OR_MORE: Span = Span {
-    least: 2,
-    greatest: 255,
-    hole_from: 0,
-    hole_to: 0,
-};
+    ghost try_from_gives = { Typed };
 
-const FOUR_OR_MORE: Span = Span {
-    least: 4,
-    greatest: 255,
-    hole_from: 0,
-    hole_to: 0,
-};
+    // The type of a function code.
+    #[tactic(auto, unfolding(crate::specs::Types::types))]
+    #[inline(always)]
+    fn try_from(function: u8) -> Result<Kind, Fault> {
+        match function {
+            0xC6 => Ok(Kind::Ami),
+            0xD2 => Ok(Kind::Amb),
+            0xC8 => Ok(Kind::Rmi),
+            0xD4 => Ok(Kind::Rmb),
+            0xD8 => Ok(Kind::Bln),
+            0xC0 => Ok(Kind::Sim),
+            0xD0 => Ok(Kind::Sbi),
+            0xC2 => Ok(Kind::Sia),
+            0xC4 => Ok(Kind::Svi),
+            0xF0 => Ok(Kind::Scfl),
+            0x74 => Ok(Kind::Stc),
+            0xF6 => Ok(Kind::Sto),
+            0xF2 => Ok(Kind::Bsu),
+            0xF4 => Ok(Kind::Esu),
+            0xE4 => Ok(Kind::Dir),
+            0xE6 => Ok(Kind::Dbr),
+            0xDA => Ok(Kind::Trn),
+            0xEE => Ok(Kind::Rps),
+            0xF8 => Ok(Kind::Nop),
+            _ => Err(Fault::UnknownType),
+        }
+    }
+}
 
-pub const AMI: TypeRow = TypeRow(0xC6, FOUR);
+impl Kind {
+    // The table: the LENGTHs that it takes. An array of these rows, indexed by the type, made real parts a third slower.
+    #[tactic(auto, unfolding(crate::specs::Types::types))]
+    fn lengths(self) -> Span
+        ensures { lengths_in result ≡ lengths_of self }
+    {
+        match self {
+            Kind::Ami => all(4, 4),
+            Kind::Amb => all(4, 4),
+            Kind::Rmi => all(4, 4),
+            Kind::Rmb => all(4, 4),
+            Kind::Bln => all(2, 2),
+            Kind::Sim => all(4, 4),
+            Kind::Sbi => all(4, 4),
+            Kind::Sia => all(4, 5),
+            Kind::Svi => all(4, 4),
+            Kind::Scfl => all(3, 3),
+            Kind::Stc => all(4, 5),
+            Kind::Sto => all(6, 6),
+            Kind::Bsu => all(3, 3),
+            Kind::Esu => all(3, 3),
+            Kind::Dir => FOUR_OR_SEVEN,
+            Kind::Dbr => FOUR_OR_SEVEN,
+            Kind::Trn => all(2, 255),
+            Kind::Rps => all(4, 255),
+            Kind::Nop => all(2, 255),
+        }
+    }
 
-pub const AMB: TypeRow = TypeRow(0xD2, FOUR);
+    // Whether it takes a LENGTH.
+    fn takes(self, n: usize) -> bool
+        ensures { result ≡ (lengths_of self takes n) }
+    {
+        let row = self.lengths();
+        lies(n, row.least, row.greatest) & !lies(n, row.hole_from, row.hole_to)
+    }
 
-pub const RMI: TypeRow = TypeRow(0xC8, FOUR);
-
-pub const RMB: TypeRow = TypeRow(0xD4, FOUR);
-
-pub const BLN: TypeRow = TypeRow(0xD8, TWO);
-
-pub const SIM: TypeRow = TypeRow(0xC0, FOUR);
-
-pub const SBI: TypeRow = TypeRow(0xD0, FOUR);
-
-pub const SIA: TypeRow = TypeRow(0xC2, FOUR_OR_FIVE);
-
-pub const SVI: TypeRow = TypeRow(0xC4, FOUR);
-
-pub const SCFL: TypeRow = TypeRow(0xF0, THREE);
-
-pub const STC: TypeRow = TypeRow(0x74, FOUR_OR_FIVE);
-
-pub const STO: TypeRow = TypeRow(0xF6, SIX);
-
-pub const BSU: TypeRow = TypeRow(0xF2, THREE);
-
-pub const ESU: TypeRow = TypeRow(0xF4, THREE);
-
-pub const DIR: TypeRow = TypeRow(0xE4, FOUR_OR_SEVEN);
-
-pub const DBR: TypeRow = TypeRow(0xE6, FOUR_OR_SEVEN);
-
-pub const TRN: TypeRow = TypeRow(0xDA, TWO_OR_MORE);
-
-pub const RPS: TypeRow = TypeRow(0xEE, FOUR_OR_MORE);
-
-pub const NOP: TypeRow = TypeRow(0xF8, TWO_OR_MORE);
-
-// The table. Each type's own code asks its row by name; where a body is cut, `misfit` looks for the row.
-const TYPES: [TypeRow; 19] = [
-    AMI, AMB, RMI, RMB, BLN, SIM, SBI, SIA, SVI, SCFL, STC, STO, BSU, ESU, DIR, DBR, TRN, RPS, NOP,
-];
-
-// The mask FE leaves the function code, and the mask 1 the chain flag.
-pub fn split(byte: u8) -> Kind
-    ensures { result ≡ record { function = function byte; chains = chaining byte } }
-{
-    Kind {
-        function: byte & 0xFE,
-        chains: byte & 1,
+    // 22 where it doesn't take the LENGTH of these parameters, which counts itself, TYPE and the parameters.
+    pub fn suits(self, p: &[u8]) -> Result<(), Fault>
+        ensures { verdict result tt ≡ suited self p.now }
+    {
+        if !self.takes(2 + p.len()) {
+            return Err(Fault::WrongLength);
+        }
+        Ok(())
     }
 }
 
@@ -139,40 +145,22 @@ pub fn split(byte: u8) -> Kind
 fn lies(n: usize, first: u8, last: u8) -> bool
     ensures { result ≡ (n ∈ first to last) }
 {
-    both(first as usize <= n, n <= last as usize)
+    (usize::from(first) <= n) & (n <= usize::from(last))
 }
 
-// Whether a row takes a LENGTH.
-fn takes(row: TypeRow, n: usize) -> bool
-    ensures { result ≡ (lengths_in row takes n) }
+// Why a sequence with a cut body is refused: 23, 22, or else 20.
+#[tactic(auto, using(crate::proofs::Rows::has_row))]
+#[cold]
+#[inline(never)]
+pub fn misfit(function: u8, n: usize) -> Fault
+    ensures { (at : ℕ) → at ≤ 2 → refused_from (at + 2) result ≡ cut_short at function n }
 {
-    let hole = lies(n, row.1.hole_from, row.1.hole_to);
-    both(lies(n, row.1.least, row.1.greatest), !hole)
-}
-
-// Whether a row takes the LENGTH of these parameters. It counts itself, TYPE and the parameters.
-pub fn suits(row: TypeRow, p: &[u8]) -> bool
-    ensures { result ≡ (lengths_in row takes (2 + length p.now)) }
-{
-    takes(row, 2 + p.len())
-}
-
-// Why a sequence with a cut body is refused, its LENGTH standing at `at`: 23, 22, or else 20.
-pub fn misfit(function: u8, n: usize, at: u16) -> u16
-    requires { at ≤ 2 }
-    ensures { verdict result tt ≡ cut_short at function n }
-{
-    let types = TYPES;
-    let mut k: usize = 0;
-    while k < 19 {
-        let row = types[k];
-        if row.0 == function {
-            if takes(row, n) {
-                return 20;
-            }
-            return 22 + 256 * at;
-        }
-        k += 1;
+    match Kind::try_from(function) {
+        Err(unknown) => unknown,
+        Ok(kind) => if kind.takes(n) {
+            Fault::CutSequence
+        } else {
+            Fault::WrongLength
+        },
     }
-    23 + 256 * (at + 1)
 }

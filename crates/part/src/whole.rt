@@ -2,8 +2,6 @@
 ghost use Rattle.std.specs.Prelude.{◌≡◌, ◌<◌};
 ghost use Rattle.part.specs.Records.{little_at, is_whole};
 
-use super::bools::{both, either};
-use super::numbers::wide;
 use super::values::byte_at;
 
 // Two bytes, the lower first; beyond the end they count as 0.
@@ -20,8 +18,5 @@ pub fn is_whole(bytes: &[u8]) -> bool
 {
     let n = little_at(bytes, 0);
     let kind = little_at(bytes, 2);
-    both(
-        either(both(kind == 1, 16 <= n), both(kind == 2, n == 16)),
-        wide(n) <= bytes.len(),
-    )
+    (((kind == 1) & (16 <= n)) | ((kind == 2) & (n == 16))) & (n as usize <= bytes.len())
 }

@@ -1,7 +1,8 @@
 -- `part::ranges::state_holds` meets its contract: test by test, the list of ranges.
 use Rattle.part.specs.Ranges.{state_fields}
+use Rattle.part.proofs.Fields.{hold-backwards}
 use Rattle.part.proofs.ranges.state_holds.Goals as goal
 
 pub returns : goal.returns
 unfolding state_fields
-returns c = rw (c.both.ensures, c.both-ok-11.ensures, c.both-ok-10.ensures, c.both-ok-9.ensures, c.both-ok-8.ensures, c.both-ok-7.ensures, c.both-ok-6.ensures, c.both-ok-5.ensures, c.is_colour.ensures, c.both-ok-4.ensures, c.either.ensures, c.both-ok-3.ensures, c.both-ok-2.ensures, c.both-ok.ensures)
+returns c = rw c.is_colour.ensures (hold-backwards (state_fields c.args.s))

@@ -1,35 +1,32 @@
 -- `part::show::record_text` meets its contract: by the room for the record; the head, and then the characters, are the record.
-use Prim.Native.Nat.{◌+◌}
-use Rattle.part.proofs.Cycles.{length-cycle}
-use Rattle.part.proofs.Inks.{text_full, text_fits, recorded_text}
-use Rattle.part.proofs.Places.{text_set}
-use Rattle.part.proofs.Stores.{more}
-use Rattle.part.specs.Checks.{fine}
-use Rattle.part.specs.Code.{state_of, head_of, head_bytes}
-use Rattle.part.specs.Text.{cycle}
-use lib.ListN.{length, get_or}
 use mathlib.Core.Path.{refl, sym, ◌∙◌, ap}
 use native.Mathlib.Omega.{arith}
+use Rattle.part.specs.Code.{head_of, head_bytes}
+use Rattle.part.specs.Text.{cycle}
+use Rattle.part.proofs.Bounds.{bounded}
+use Rattle.part.proofs.Cycles.{length-cycle}
+use Rattle.part.proofs.Inks.{text_full, text_fits, recorded_text}
+use Rattle.part.proofs.Stores.{more}
+use lib.ListN.{length}
 use Rattle.part.proofs.show.record_text.Goals as goal
 
 pub returns-then-area-end : goal.returns-then-area-end
 returns-then-area-end c =
     let a = c.args in
-    let w = a.w.now in
     let cs = cycle a.t.now 0 a.count in
-    rw (text_full (length a.area.now) (state_of w) a.i cs (omega (arith, length-cycle a.t.now 0 a.count, c.wide-used.ensures.0))) (refl, refl)
+    rw (text_full (length a.area.now) a.s.now a.i cs (omega (arith, length-cycle a.t.now 0 a.count))) (refl, refl)
 
 pub returns : goal.returns
 returns c =
     let a = c.args in
-    let w = a.w.now in
-    let area = a.area.now in
+    let s = a.s.now in
     let cs = cycle a.t.now 0 a.count in
     let long = length-cycle a.t.now 0 a.count in
-    let used = c.wide-used.result in
-    let u = c.wide-used.ensures.0 in
-    let fits = text_fits (length area) (state_of w) a.i cs (omega (arith, long, u)) in
-    let h = c.text_head.result in
-    let same = c.text_head.ensures ∙ ap (head_of (state_of w)) (sym long) in
-    let stored = more area c.put_head.new.area c.draw.new.area used (head_bytes h) cs c.put_head.ensures c.draw.ensures in
-    rw fits (ap fine (text_set w c.requires.0 a.i (used + 16 + a.count) (get_or w 11 0 + 16 + length cs) (omega (arith, long, u))), stored ∙ recorded_text area (state_of w) used cs h u same)
+    let same = c.text_head.ensures ∙ ap (head_of s) (sym long) in
+    let stored = more a.area.now c.put_head.new.area c.draw.new.area s.used (head_bytes c.text_head.result) cs c.put_head.ensures c.draw.ensures in
+    rw (text_fits (length a.area.now) s a.i cs (omega (arith, long)), long) (refl, stored ∙ recorded_text a.area.now s cs c.text_head.result same)
+
+pub text_head-requires : goal.text_head-requires
+text_head-requires c =
+    let b = bounded c.args.s.now c.requires.in_range in
+    (b.adjustment, b.inline, b.baseline, c.requires.sizes.2)

@@ -1,12 +1,7 @@
--- `part::text::row_eights` meets its contract. The invariant: the sum and the widths that are left are the widths of all.
-use Prim.Native.Nat.{◌+◌, ◌*◌, ◌-◌, ◌≤◌}
+-- `part::text::row_eights` meets its contract. The invariant: the widths of the eights so far are summed.
+use Rattle.std.proofs.Common.{◌≡◌, ◌*◌, ◌≤◌, take, sum_by}
 use Rattle.part.specs.Code.{row_widths}
-use lib.ListN.{length, drop}
-use mathlib.Core.Path.{◌≡◌}
 use Rattle.part.proofs.text.row_eights.Given as goal
 
-abbrev pub invariant-loop-k : goal.invariant-loop-k
-invariant-loop-k l = (l.k ≤ length l.t) × ((l.sum ≤ 65536 * l.k) × (l.sum + row_widths l.row (drop l.k l.t) ≡ row_widths l.row l.t))
-
-abbrev pub decreases-loop-k : goal.decreases-loop-k
-decreases-loop-k l = length l.t - l.k
+abbrev pub invariant-loop-e : goal.invariant-loop-e
+invariant-loop-e l = (l.sum ≡ sum_by (row_widths l.row) (take l.e-index l.eights)) × (l.sum ≤ 524288 * l.e-index)
