@@ -11,6 +11,7 @@ pub mod Draining
 pub mod Holding
 pub mod Printing
 pub mod Answering
+pub mod Stores
 pub mod Storing
 pub mod Swapping
 pub mod Rising
