@@ -19,7 +19,7 @@ fn place(lent: bool, slot: u32) -> Result<usize, Refusal>
     Ok(slot as usize)
 }
 
-// A request's answer, done or refused.
+// A request's answer, done or refused. The four share this and `place`; of one function with the change as a closure (tried) nothing is known of the table afterwards.
 fn answer(done: Result<Answer, Refusal>) -> Answer
     ensures { result ≡ replied done }
 {

@@ -52,6 +52,7 @@ pub fn perform(
     requires { Ready widths.now area.old s.old × (length p.now < 65536) × (function ≡ 0xDA → ⊥) }
     ensures { Does (λ s. performed (length area.old) widths.now d.now s function p.now) result s area }
 {
+    // A match and no closures or dyn: the types are a closed list, and it becomes one jump.
     let kind = Kind::try_from(function)?;
     match kind {
         Kind::Ami => absolute_move(kind, &mut s.at.i, p),

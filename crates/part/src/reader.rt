@@ -22,7 +22,7 @@ pub struct Read {
     // Where its characters or parameters begin.
     pub from: usize,
     pub size: usize,
-    // 1 where it chains the next.
+    // 1 where it chains the next, a number as the state's chain is.
     pub chains: u32,
 }
 

@@ -53,6 +53,7 @@ fn store_rounds(area: &mut [u8], at: usize, text: &[u8], count: usize)
 {
     store(area, at, text);
     let mut done = text.len();
+    // each turn doubles what is there, which no iterator of std does
     while done < count {
         let more = done.min(count - done);
         area.copy_within(at..at + more, at + done);

@@ -90,7 +90,7 @@ fn place_rule(
     record_rule(area, s, mark, len, width)
 }
 
-// DIR, DBR: 24, and then the rule.
+// DIR, DBR: 24, and then the rule. The mark is the record's own number.
 pub fn draw_rule(
     kind: Kind,
     mark: u32,

@@ -10,7 +10,7 @@ use super::reader::{What, first_parameter, read_element};
 use super::shapes::{Descriptor, State};
 use super::show::show_plain;
 
-// How many elements there are, where all passed.
+// How many elements there are, where all passed. Widths, area, descriptor and state go one by one: of a struct that lends all four each contract would have to say which of them stay.
 pub fn run(
     part: &[u8],
     widths: &[u16],
@@ -23,6 +23,7 @@ pub fn run(
 {
     let mut at: usize = 0;
     let mut count: u32 = 0;
+    // A loop by offset, since that is what a refusal says; each step is as long as the element, which no iterator of std gives.
     while at < part.len() {
         let rest = &part[at..];
         let from = first_parameter(s.chain);

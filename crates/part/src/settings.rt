@@ -31,7 +31,7 @@ pub fn set_number(kind: Kind, place: &mut u32, p: &[u8], most: u32, other: u32) 
     Ok(())
 }
 
-// STC.
+// STC: a function beside `set_number`, as a closure for the range in the place of a number is no plainer.
 pub fn set_color(kind: Kind, colour: &mut u32, p: &[u8], other: u32) -> Result<(), Fault>
     ensures { verdict result colour.new ≡ sized kind p.now (setting p.now colours other) }
 {

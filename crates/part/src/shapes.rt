@@ -1,4 +1,4 @@
-// The values of one part. A position is kept as its number plus 32,768. An absent variable space is 65,535.
+// The values of one part, with the numbers that C has in them. A position is kept as its number plus 32,768. An absent variable space is 65,535.
 
 // A place on the sheet: I along the lines, B down the page.
 #[repr(C)]
@@ -41,7 +41,7 @@ pub struct State {
     pub used: u32,
 }
 
-// A code and two numbers.
+// A code, as C's number, and two numbers.
 #[repr(C)]
 #[derive(Clone, Copy, PartialEq, Eq, Debug)]
 pub struct Answer {
