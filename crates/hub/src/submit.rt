@@ -45,6 +45,7 @@ impl Entry {
     {
         self.may_submit(key, number)?;
         let r = interpret(part, widths, area, self.descriptor, self.state);
+        // a part's answer has C's numbers
         if r.answer.code == 0 {
             self.state = r.state;
             self.next += 1;

@@ -1,5 +1,5 @@
 // The requests over a lent table of entries: each tests what is lent, then the slot, and changes one entry in place.
-// Each contract says that the function is its request's step: r is the step's answer, and what is lent is left as the step leaves it.
+// Each contract says that the function is its request's step: the result is the step's answer, and what is lent is left as the step leaves it.
 // What a function is not lent may be anything: the step leaves it alone. Open and close are lent no widths and no record bytes, submit and take no number of open
 // jobs, a take no widths.
 ghost use Rattle.std.specs.Prelude.{◌≡◌, List, ℕ};

@@ -12,7 +12,7 @@ use part::sheet::{on_sheet, sheet_state};
 // The code of a part that was interpreted to its end; any other refuses it. C has codes as numbers, in `Answer`.
 const DONE: u32 = 0;
 
-// A position of a state.
+// A position of a state, which keeps it plus ORIGIN, as C has it.
 fn position(p: u32) -> Number
     requires { p < 65536 }
     ensures { plus_middle result ≡ position_number p }

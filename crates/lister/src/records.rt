@@ -13,7 +13,7 @@ enum Kind {
 }
 
 impl Kind {
-    // A whole record has one of the two.
+    // A whole record has one of the two, as a number, since printers read its bytes.
     fn of(r: &[u8]) -> Self
         ensures { result ≡ kind_of r.now }
     {
@@ -74,6 +74,7 @@ pub fn put_records(out: &mut Listing, bytes: &[u8])
     ensures short { length out.new ≤ length out.old + 3 * length bytes.now }
 {
     let mut rest = bytes;
+    // what is left is split off by the record's own length, which no iterator of std does
     while is_whole(rest) {
         let (record, later) = rest.split_at(little_at(rest, 0) as usize);
         put_record(out, record);

@@ -94,7 +94,7 @@ fn at_length(part: &[u8], widths: &[u16], area: &mut [u8], d: &Descriptor, s: St
     }
 }
 
-// The same by a small scratch area, as if nothing were used yet; None where it was not enough, or a refusal.
+// The same by a small scratch area, as if nothing were used yet; None where it was not enough, or a refusal. Bytes used and answer differ, so the two stay two.
 fn briefly(
     part: &[u8],
     widths: &[u16],

@@ -72,6 +72,7 @@ pub fn perform(
         Kind::Dir => draw_rule(kind, 0, p, area, d, s),
         Kind::Dbr => draw_rule(kind, 1, p, area, d, s),
         Kind::Rps => repeat_string(kind, p, widths, area, d, s),
+        // TRN is text, which doesn't come here
         Kind::Trn | Kind::Nop => kind.suits(p),
     }
 }

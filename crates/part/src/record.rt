@@ -5,7 +5,7 @@ ghost use Rattle.part.specs.Numbers.{little};
 ghost use Rattle.part.specs.Text.{cycle};
 ghost use Rattle.part.specs.Code.{head_bytes};
 
-// The eight numbers that either kind of record begins with.
+// The eight numbers that either kind of record begins with: numbers all, the kind too, as printers read them.
 #[derive(Clone, Copy, PartialEq, Eq, Debug)]
 pub struct Head {
     pub len: u32,
@@ -37,7 +37,7 @@ pub fn put_head(area: &mut [u8], at: usize, h: Head)
     area[at + 8..at + 16].copy_from_slice(&four_of(h.first, h.second, h.third, h.fourth));
 }
 
-// Stores bytes.
+// Stores bytes. Area and place go together, and stay two: the area is lent whole, and slices of it would be cut at each call.
 #[tactic(auto, using(crate::proofs::Stores::put))]
 pub fn store(area: &mut [u8], at: usize, bytes: &[u8])
     requires { at + length bytes.now ≤ length area.old }

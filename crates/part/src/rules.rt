@@ -90,7 +90,7 @@ fn place_rule(
     record_rule(area, s, mark, len, width)
 }
 
-// DIR, DBR: 24, and then the rule. The mark is the record's own number.
+// DIR, DBR: 24, and then the rule. The mark is the record's own number, 0 or 1.
 pub fn draw_rule(
     kind: Kind,
     mark: u32,

@@ -87,7 +87,7 @@ fn local_id(p: &[u8]) -> Result<u32, Fault>
     Err(Fault::WrongValue)
 }
 
-// BSU: while one is open, 26.
+// BSU: while one is open, 26. It and ESU differ in the test and in what is left; both handed in are no plainer.
 pub fn begin_suppression(kind: Kind, current: &mut u32, p: &[u8]) -> Result<(), Fault>
     ensures { verdict result current.new ≡ sized kind p.now (beginning current.old p.now) }
 {

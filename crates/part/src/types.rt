@@ -30,7 +30,7 @@ pub enum Kind {
     Nop,
 }
 
-// LENGTHs from the least to the greatest, but for those of a hole (0 and 0: none).
+// LENGTHs from the least to the greatest, but for those of a hole (0 and 0: none, as in the rule book's row).
 #[derive(Clone, Copy, PartialEq, Eq, Debug)]
 pub struct Span {
     pub least: u8,
