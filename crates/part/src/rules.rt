@@ -91,6 +91,7 @@ fn place_rule(
 }
 
 // DIR, DBR: 24, and then the rule. The mark is the record's own number, 0 or 1.
+#[inline(always)]
 pub fn draw_rule(
     kind: Kind,
     mark: u32,
