@@ -1,5 +1,5 @@
 // Records: their first sixteen bytes, and characters stored behind them.
-ghost use Rattle.std.specs.Prelude.{◌≡◌, ◌++◌, ◌+◌, ◌≤◌, ◌<◌, length};
+ghost use Rattle.std.specs.Prelude.{◌≡◌, ◌++◌, ◌+◌, ◌≤◌, ◌<◌, length, take, drop};
 ghost use Rattle.std.proofs.lemmas.List.Edits.{sets};
 ghost use Rattle.part.specs.Numbers.{little};
 ghost use Rattle.part.specs.Text.{cycle};
@@ -37,13 +37,39 @@ pub fn put_head(area: &mut [u8], at: usize, h: Head)
     area[at + 8..at + 16].copy_from_slice(&four_of(h.first, h.second, h.third, h.fourth));
 }
 
-// Stores bytes. Area and place go together, and stay two: the area is lent whole, and slices of it would be cut at each call.
+// Stores `N` of some bytes, from number `k` on: a length that is known makes a few moves of the processor, and no call of the C library. All are read before the
+// first is stored, so that the back end need not ask whether they lie apart.
 #[tactic(auto, using(crate::proofs::Stores::put))]
+fn store_some<const N: usize>(area: &mut [u8], at: usize, bytes: &[u8], k: usize)
+    requires { (at + N ≤ length area.old) × (k + N ≤ length bytes.now) }
+    ensures { area.new ≡ sets area.old at (take N (drop k bytes.now)) }
+{
+    let mut some = [0u8; N];
+    some.copy_from_slice(&bytes[k..k + N]);
+    area[at..at + N].copy_from_slice(&some);
+}
+
+// Stores bytes by sixteens, and the last eight once more where they do not end a block, so that none goes by itself but of fewer than eight.
+// Area and place go together, and stay two: the area is lent whole, and slices of it would be cut at each call.
 pub fn store(area: &mut [u8], at: usize, bytes: &[u8])
     requires { at + length bytes.now ≤ length area.old }
     ensures { area.new ≡ sets area.old at bytes.now }
 {
-    area[at..at + bytes.len()].copy_from_slice(bytes);
+    let n = bytes.len();
+    if n < 8 {
+        for k in 0..n {
+            area[at + k] = bytes[k];
+        }
+        return;
+    }
+    for i in 0..n / 16 {
+        store_some::<16>(area, at + 16 * i, bytes, 16 * i);
+    }
+    let k = 16 * (n / 16);
+    if 8 < n - k {
+        store_some::<8>(area, at + k, bytes, k);
+    }
+    store_some::<8>(area, at + (n - 8), bytes, n - 8);
 }
 
 // Stores `count` characters, more than one round of a text that begins again at its end: one round, and then what is there once more, as long as it lasts.
