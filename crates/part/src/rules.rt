@@ -52,8 +52,8 @@ fn record_rule(area: &mut [u8], s: &mut State, mark: u32, len: u32, width: u32) 
     let h = Head {
         len: 16,
         kind: 2,
-        i: s.at.i.wrapping_add(ORIGIN),
-        b: s.at.b.wrapping_add(ORIGIN),
+        i: (s.at.i & 0xFFFF) + ORIGIN,
+        b: (s.at.b & 0xFFFF) + ORIGIN,
         first: mark,
         second: s.colour,
         third: len,
