@@ -1,6 +1,7 @@
 // Interprets one part of presentation text. What other crates may use is public, and asks nothing of a caller.
 #![tactic(auto)]
 
+pub mod bools;
 mod faults;
 pub mod interpret;
 mod moves;
