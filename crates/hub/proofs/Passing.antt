@@ -1,17 +1,15 @@
 -- What is known of an entry, and of the number beside it, where a request's checks have all passed.
 -- Assumes nothing.
 use Rattle.std.proofs.Common.{ℕ, ◌≡◌, ◌≤◌, Bool, true, false, List, refl, sym, arith}
-use Rattle.std.specs.Prelude.{Err, if◌then◌else◌}
+use Rattle.std.specs.Prelude.{if◌then◌else◌}
 use borrow.Author.Tests.{ltb-true, leb-true}
 use lib.Dec.{leb}
-use Rattle.part.specs.Checks.{Checked, fine, require}
+use Rattle.part.specs.Checks.{Checked, fine, refuse, require}
 use Rattle.part.specs.Ranges.{hold, descriptor_fields}
 use Rattle.part.specs.declared.shapes.Descriptor.{Descriptor}
 use Rattle.part.proofs.Checks.{value_of, first_of}
 use Rattle.hub.specs.Entries.{all_written}
 use Rattle.hub.specs.Requests.{may_open, may_submit, may_take, may_close, passes}
-use Rattle.hub.specs.Code.{tested}
-use Rattle.hub.specs.declared.refusal.Refusal.{Refusal}
 use Rattle.hub.specs.declared.jobs.Entry.{Entry}
 use Rattle.hub.proofs.Deciding.{open_tests, submit_tests, take_tests, close_tests}
 use Rattle.hub.proofs.Ranging.{used_low}
@@ -23,8 +21,8 @@ passed true code is = refl
 passed false code is = absurd (let z : ◌≡◌ {A = ℕ} 0 1 = cc in omega arith)
 
 -- what is lent beside the entry, a number or an area, is as it was where a check refuses
-pub stopped_same : {A : Type 0} (was other : A) (why : Refusal) (m : Checked Unit) → tested (Err why) ≡ m → was ≡ (if passes m then other else was)
-stopped_same was other why m is = rw (sym is)
+pub stopped_same : {A : Type 0} (was other : A) (code : ℕ) (m : Checked Unit) → refuse code ≡ m → was ≡ (if passes m then other else was)
+stopped_same was other code m is = rw (sym is)
 
 -- the descriptor is in range, and one more can be counted
 pub opens : (key : ℕ) (d : Descriptor) (stored : ℕ) (e : Entry) → fine tt ≡ may_open key d stored e → (hold (descriptor_fields d) ≡ true) × (stored ≤ 15)

@@ -12,7 +12,7 @@ use borrow.Author.Rules.{rules}
 use borrow.Author.Tests.{le-leb, lt-leb}
 use Rattle.part.specs.Checks.{Checked, fine, fault, refuse, require, require_at, starting_at, ◌>>=◌, ◌>>◌}
 use Rattle.part.specs.Elements.{Element, Text}
-use Rattle.part.specs.Types.{function, chaining, Row, row, values_of, types, row_of, ◌takes◌}
+use Rattle.part.specs.Types.{function, chaining, Lengths, Row, row, values_of, types, row_of, ◌takes◌}
 use Rattle.part.specs.Reading.{Found, found, between, sequence}
 use Rattle.part.specs.Code.{fault_code, place_of, refused_from, function_of, lengths_of, fitted, cut_short}
 use Rattle.part.specs.declared.faults.Fault.{Fault}
@@ -71,6 +71,6 @@ pub text_row : (at : ℕ) (p : List ℕ) → 2 + length p ≤ 255 → fitted at 
 unfolding types
 text_row at p h = search rules
 
--- a type whose LENGTHs begin with 4 has two bytes of parameters
-pub two_there : (kind : Kind) (n : ℕ) → 4 ≤ (lengths_of kind).least → (lengths_of kind takes (2 + n)) ≡ true → 2 ≤ n
-two_there kind n four t = omega (arith, least-taken (lengths_of kind) (2 + n) t)
+-- a row whose LENGTHs begin with 4 has two bytes of parameters
+pub two_there : (l : Lengths) (n : ℕ) → 4 ≤ l.least → (l takes (2 + n)) ≡ true → 2 ≤ n
+two_there l n four t = omega (arith, least-taken l (2 + n) t)
