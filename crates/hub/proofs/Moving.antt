@@ -58,3 +58,11 @@ module _ (area : List ℕ) (from : ℕ) where
         ∙ ap (λ (t : List ℕ). take k unread ++ take n (drop k unread) ++ t) (behind n)
         ∙ ap (λ (t : List ℕ). t ++ drop (k + n) area) (sym (take-add k n unread))
         ∙ ap moved (let z : k + n ≡ at + n - from = omega arith in z))
+
+-- the same, by how many were moved before
+pub moved_on : (area : List ℕ) (from k n : ℕ) (was : List ℕ) → was ≡ moved_down area from (from + k) → from + k + n ≤ length area → paste was k (drop (from + k) was) n ≡ moved_down area from (from + (k + n))
+moved_on area from k n was before fits =
+    ap (λ t. paste t k (drop (from + k) t) n) before
+    ∙ ap (λ (m : ℕ). paste (moved_down area from (from + k)) m (drop (from + k) (moved_down area from (from + k))) n) (let z : k ≡ from + k - from = omega arith in z)
+    ∙ moved_more area from (from + k) n (omega arith) fits
+    ∙ ap (moved_down area from) (let z : from + k + n ≡ from + (k + n) = omega arith in z)

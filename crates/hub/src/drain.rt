@@ -27,13 +27,14 @@ pub fn move_down(area: &mut [u8], from: usize, to: usize)
     requires { (from ≤ to) × (to ≤ length area.old) }
     ensures { area.new ≡ moved_down area.old from to }
 {
-    let mut at = from;
+    let n = to - from;
+    let mut k: usize = 0;
     // By blocks, each read before it is stored, as the two may overlap: `copy_within` alone goes byte by byte, 275 ns for 4,080 bytes, this 110 to 130.
-    while 64 <= to - at {
+    while 64 <= n - k {
         let mut block = [0u8; 64];
-        block.copy_from_slice(&area[at..at + 64]);
-        area[at - from..at - from + 64].copy_from_slice(&block);
-        at += 64;
+        block.copy_from_slice(&area[from + k..from + k + 64]);
+        area[k..k + 64].copy_from_slice(&block);
+        k += 64;
     }
-    area.copy_within(at..to, at - from);
+    area.copy_within(from + k..to, k);
 }

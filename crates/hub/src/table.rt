@@ -110,5 +110,10 @@ pub fn halviruso_count(table: &[Entry]) -> u32
     if table.len() != 16 {
         return 0;
     }
-    table.iter().filter(|e| e.is_open()).count() as u32
+    // a sum without a branch, which a filter's count has for each entry
+    let mut n: u32 = 0;
+    for e in table {
+        n += u32::from(e.is_open());
+    }
+    n
 }

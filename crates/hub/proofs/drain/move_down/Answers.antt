@@ -3,33 +3,32 @@ use Rattle.std.proofs.Common.{◌≡◌, ◌+◌, ◌-◌, ◌≤◌, length, dr
 use lib.Seq.{paste}
 use Rattle.hub.specs.Requests.{moved_down}
 use Rattle.hub.proofs.Bytes.{moved_length}
-use Rattle.hub.proofs.Moving.{stored, none_moved, moved_more}
+use Rattle.hub.proofs.Moving.{stored, none_moved, moved_on}
 use Rattle.hub.proofs.drain.move_down.Goals as goal
 
-pub loop-at-init : goal.loop-at-init
-loop-at-init c = record { from_on = omega arith; to_most = omega arith; moved = sym (none_moved c.args.area.now c.args.from (omega (arith, c.requires.0, c.requires.1))) }
-
-pub loop-at-preserved : goal.loop-at-preserved
-loop-at-preserved c =
+pub loop-k-init : goal.loop-k-init
+loop-k-init c =
     let a = c.args in
-    let l = c.loop-at in
-    let k = l.at - a.from in
-    let to : l.at + 64 ≤ a.to = omega (arith, c.loop-at-test.true) in
-    let long = ap length l.invariant.moved ∙ moved_length a.area.now a.from l.at in
+    record { within = omega arith; moved = sym (ap (moved_down a.area.now a.from) (let z : a.from + 0 ≡ a.from = omega arith in z) ∙ none_moved a.area.now a.from (omega (arith, c.requires.0, c.requires.1))) }
+
+pub loop-k-preserved : goal.loop-k-preserved
+loop-k-preserved c =
+    let a = c.args in
+    let l = c.loop-k in
+    let within : l.k + 64 ≤ a.to - a.from = omega (arith, c.loop-k-test.true) in
+    let long = ap length l.invariant.moved ∙ moved_length a.area.now a.from (a.from + l.k) in
     record {
-      from_on = omega arith;
-      to_most = to;
+      within = within;
       moved =
-          stored l.area _ k l.at 64 (omega (arith, to, long, c.requires.1)) (c.copy_from_slice-in-loop-at.ensures.after ∙ c.copy_from_slice.ensures.after)
-          ∙ ap (λ t. paste t k (drop l.at t) 64) l.invariant.moved
-          ∙ moved_more a.area.now a.from l.at 64 l.invariant.from_on (omega (arith, to, c.requires.1));
+          stored l.area _ l.k (a.from + l.k) 64 (omega (arith, within, long, c.requires.0, c.requires.1)) (c.copy_from_slice-in-loop-k.ensures.after ∙ c.copy_from_slice.ensures.after)
+          ∙ moved_on a.area.now a.from l.k 64 l.area l.invariant.moved (omega (arith, within, c.requires.0, c.requires.1));
     }
 
 pub returns : goal.returns
 returns c =
     let a = c.args in
-    let l = c.loop-at in
+    let l = c.loop-k in
     c.copy_within.ensures.after
-    ∙ ap (λ t. paste t (l.at - a.from) (drop l.at t) (a.to - l.at)) l.invariant.moved
-    ∙ moved_more a.area.now a.from l.at (a.to - l.at) l.invariant.from_on (omega (arith, l.invariant.to_most, c.requires.1))
-    ∙ ap (moved_down a.area.now a.from) (let z : l.at + (a.to - l.at) ≡ a.to = omega (arith, l.invariant.to_most) in z)
+    ∙ ap (paste l.area l.k (drop (a.from + l.k) l.area)) (let z : a.to - (a.from + l.k) ≡ a.to - a.from - l.k = omega arith in z)
+    ∙ moved_on a.area.now a.from l.k (a.to - a.from - l.k) l.area l.invariant.moved (omega (arith, l.invariant.within, c.requires.0, c.requires.1))
+    ∙ ap (moved_down a.area.now a.from) (let z : a.from + (l.k + (a.to - a.from - l.k)) ≡ a.to = omega (arith, l.invariant.within, c.requires.0) in z)

@@ -1,8 +1,7 @@
 -- `hub::table::halviruso_count` meets its contract: the open entries of sixteen, and none of a table of another length.
-use Rattle.std.proofs.Common.{◌≡◌, count_by, rules, eq-eqb, ne_eqb, refl}
-use Rattle.hub.specs.Entries.{is_open}
-use Rattle.hub.specs.Requests.{count_open}
-use Rattle.hub.proofs.Counts.{counted}
+use Rattle.std.proofs.Common.{eq-eqb, ne_eqb, refl, ap, arith}
+use Rattle.std.proofs.lemmas.List.{drop_all}
+use Rattle.hub.specs.Requests.{open_jobs, count_open}
 use Rattle.hub.proofs.table.halviruso_count.Goals as goal
 
 pub returns-then-table-ne16 : goal.returns-then-table-ne16
@@ -12,5 +11,5 @@ returns-then-table-ne16 c = rw (ne_eqb _ _ c.if-table-ne16.true) refl
 pub returns : goal.returns
 unfolding count_open
 returns c =
-    let n : c.count.result ≡ count_by is_open c.args.table.now = search rules in
-    rw (eq-eqb _ _ c.if-table-ne16.false, counted c.args.table.now) n
+    let none = ap open_jobs (drop_all c.loop-e.e-index c.args.table.now c.loop-e-test.false) in
+    rw (eq-eqb _ _ c.if-table-ne16.false) (omega (arith, c.loop-e.invariant.1, none))
