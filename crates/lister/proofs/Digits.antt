@@ -1,6 +1,6 @@
 -- What is printed of a number of two bytes is its numeral; and how long the texts are at most.
 -- Assumes nothing.
-use Rattle.std.proofs.Common.{◌≡◌, ℕ, zero, suc, ◌+◌, ◌*◌, ◌/◌, ◌≤◌, ◌<◌, List, ◌∷◌, ◌++◌, length, take, arith, rules, length-append}
+use Rattle.std.proofs.Common.{◌≡◌, ℕ, zero, suc, ◌*◌, ◌/◌, ◌≤◌, ◌<◌, List, ◌∷◌, length, take, arith, rules, length-append, length-take-le}
 use Rattle.std.specs.Prelude.{ℤ, pos, negsuc, FitsSigned}
 use Rattle.std.specs.Int.{w16}
 use Rattle.std.specs.Fmt.{decimal, signed_decimal}
@@ -9,7 +9,7 @@ use Rattle.std.proofs.lemmas.Int.{ints}
 use Rattle.lister.specs.Lines.{digits, space, numeral, numbers, hex_byte, hex_bytes}
 use Rattle.lister.specs.Code.{plus_middle}
 use Rattle.lister.specs.declared.text.Number.TheVariants.{Plain, Signed}
-use Rattle.lister.proofs.Each.{each_short, each_within}
+use Rattle.lister.proofs.Each.{each_short}
 
 from_the_last : AppendsLastDigit digits
 unfolding digits
@@ -37,12 +37,9 @@ number_short kept = grind (arith, at_most)
 pub numbers_short : (ns : List ℕ) → length (numbers ns) ≤ 7 * length ns
 numbers_short ns = each_short (λ n. space ∷ numeral n) 7 (λ n. let h = number_short n in omega arith) ns
 
--- behind a text, the first some of those that there is room for
-pub numbers_within : (before ns : List ℕ) (i : ℕ) → i ≤ length ns → length (before ++ numbers (take i ns)) ≤ length before + 7 * i
-numbers_within before ns i within = each_within (λ n. space ∷ numeral n) 7 (λ n. let h = number_short n in omega arith) before ns i within
+-- the first some of them
+pub numbers_some : (ns : List ℕ) (i : ℕ) → i ≤ length ns → length (numbers (take i ns)) ≤ 7 * i
+numbers_some ns i within = let few = numbers_short (take i ns) in let all = length-take-le i ns within in omega arith
 
 pub hex_short : (bytes : List ℕ) → length (hex_bytes bytes) ≤ 2 * length bytes
 hex_short bytes = each_short hex_byte 2 (λ n. omega arith) bytes
-
-pub hex_within : (before bytes : List ℕ) (i : ℕ) → i ≤ length bytes → length (before ++ hex_bytes (take i bytes)) ≤ length before + 2 * i
-hex_within before bytes i within = each_within hex_byte 2 (λ n. omega arith) before bytes i within

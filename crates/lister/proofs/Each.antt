@@ -1,6 +1,6 @@
 -- The texts of the first some numbers: with the next behind them, and how long they are at most.
 -- Assumes nothing.
-use Rattle.std.proofs.Common.{◌≡◌, ℕ, suc, ◌+◌, ◌*◌, ◌<◌, ◌≤◌, List, [], ◌∷◌, ◌++◌, length, get_or, take, ◌∙◌, ap, sym, arith, append_assoc, length-append, length-take-le, add-one}
+use Rattle.std.proofs.Common.{◌≡◌, ℕ, suc, ◌+◌, ◌*◌, ◌<◌, ◌≤◌, List, [], ◌∷◌, ◌++◌, length, get_or, take, ◌∙◌, ap, sym, arith, append_assoc, length-append, add-one}
 use Rattle.std.proofs.lemmas.List.{append-nil}
 use Rattle.std.proofs.Math.Seq.{take-suc}
 use native.Mathlib.Nat.{mul-suc}
@@ -24,10 +24,3 @@ module _ (text : ℕ → List ℕ) where
       let c = h n in
       let d : most * suc (length ns) ≡ most * length ns + most = mul-suc most (length ns) in
       omega (arith, a, b, c, d)
-
-  -- behind a text, where there is room for all of them
-  pub each_within : (most : ℕ) → ((n : ℕ) → length (text n) ≤ most) → (before ns : List ℕ) (i : ℕ) → i ≤ length ns → length (before ++ each text (take i ns)) ≤ length before + most * i
-  each_within most h before ns i within =
-      let a = length-append before (each text (take i ns)) in
-      let b = rw (length-take-le i ns within) at (each_short most h (take i ns)) in
-      omega (arith, a, b)

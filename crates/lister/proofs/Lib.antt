@@ -1,4 +1,5 @@
 pub mod Each
 pub mod Digits
+pub mod Grown
 pub mod Lines
 pub mod Listed

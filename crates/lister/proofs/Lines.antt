@@ -1,6 +1,6 @@
 -- The lines of some records, one after the other: how long one is at most, and what is left.
 -- Assumes nothing.
-use Rattle.std.proofs.Common.{◌≡◌, ℕ, zero, suc, ◌+◌, ◌*◌, ◌≤◌, Bool, true, false, List, [], ◌++◌, length, take, drop, refl, ◌∙◌, sym, arith, append_assoc, length-append, length-drop, length-take-le}
+use Rattle.std.proofs.Common.{◌≡◌, ℕ, zero, suc, ◌+◌, ◌*◌, ◌≤◌, Bool, true, false, List, [], ◌++◌, length, take, drop, refl, ◌∙◌, sym, arith, append_assoc, length-append, length-drop, length-take-le, subst}
 use Rattle.std.specs.Prelude.{if◌then◌else◌, eqb}
 use Rattle.std.proofs.lemmas.List.{append-nil}
 use Rattle.part.specs.Records.{little_at, is_whole}
@@ -8,6 +8,9 @@ use Rattle.lister.specs.Lines.{newline, hex_bytes, numbers, characters_in_hex}
 use Rattle.lister.specs.Listing.{«T», «R», text_numbers, rule_numbers, text_line, rule_line, record_line, record_lines}
 use Rattle.lister.specs.Code.{kind_of}
 use Rattle.lister.specs.declared.records.Kind.TheVariants.{Text}
+use Rattle.lister.specs.Code.{Grown}
+use Rattle.lister.specs.declared.text.Listing.{Listing}
+use Rattle.lister.proofs.Grown.{unchanged, grown_by_both}
 use Rattle.lister.proofs.Digits.{numbers_short, hex_short}
 
 pub text_is : (r : List ℕ) → kind_of r ≡ Text → record_line r ≡ text_line r
@@ -39,21 +42,23 @@ pub lines_more : (most : ℕ) (bytes : List ℕ) → is_whole bytes ≡ true
 unfolding record_lines
 lines_more most bytes h = rw (record_lines, h)
 
--- ---- of some bytes, those that are left when the lines of the first records stand behind what there was
+-- ---- of some bytes, those that are left when a listing has grown by the lines of the first records
 
-pub record Left (before bytes now rest : List ℕ) : Type 0 where
+pub record Left (first : Listing) (bytes : List ℕ) (now : Listing) (rest : List ℕ) : Type 0 where
+  pub put : List ℕ
+  pub grown : Grown first now put
   pub most : ℕ
   pub enough : length rest ≤ 16 * most
-  pub room : length now + 3 * length rest ≤ length before + 3 * length bytes
-  pub lines : now ++ record_lines most rest ≡ before ++ record_lines 256 bytes
+  pub room : length put + 3 * length rest ≤ 3 * length bytes
+  pub lines : put ++ record_lines most rest ≡ record_lines 256 bytes
 
-pub all_left : (before bytes : List ℕ) → length bytes ≤ 4096 → Left before bytes before bytes
-all_left before bytes h = record { most = 256; enough = omega arith; room = omega arith; lines = refl }
+pub all_left : (l : Listing) (bytes : List ℕ) → length bytes ≤ 4096 → Left l bytes l bytes
+all_left l bytes h = record { put = []; grown = unchanged l; most = 256; enough = omega arith; room = omega arith; lines = refl }
 
 -- one record more
-pub fewer_left : (before bytes now rest : List ℕ) → Left before bytes now rest → is_whole rest ≡ true
-    → Left before bytes (now ++ record_line (take (little_at rest 0) rest)) (drop (little_at rest 0) rest)
-fewer_left before bytes now rest l h = go l.most l.enough l.lines
+pub fewer_left : {first now next : Listing} {bytes rest : List ℕ} → Left first bytes now rest → is_whole rest ≡ true
+    → Grown now next (record_line (take (little_at rest 0) rest)) → Left first bytes next (drop (little_at rest 0) rest)
+fewer_left {first} {next = next} {bytes = bytes} {rest = rest} l h g = go l.most l.enough l.lines
   where
     n : ℕ
     n = little_at rest 0
@@ -64,7 +69,7 @@ fewer_left before bytes now rest l h = go l.most l.enough l.lines
     line : List ℕ
     line = record_line (take n rest)
 
-    go : (most : ℕ) → length rest ≤ 16 * most → now ++ record_lines most rest ≡ before ++ record_lines 256 bytes → Left before bytes (now ++ line) (drop n rest)
+    go : (most : ℕ) → length rest ≤ 16 * most → l.put ++ record_lines most rest ≡ record_lines 256 bytes → Left first bytes next (drop n rest)
     go zero few is = absurd (let a = w.long in let b = w.within in omega arith)
     go (suc most) few is =
         let long = w.long in
@@ -73,12 +78,19 @@ fewer_left before bytes now rest l h = go l.most l.enough l.lines
         let its = length-take-le n rest within in
         let short = line_short (take n rest) (omega arith) in
         let others = length-drop n rest in
-        let both = length-append now line in
-        record { most = most; enough = omega arith; room = omega arith; lines = append_assoc now line (record_lines most (drop n rest)) ∙ rw (lines_more most rest h) at is }
+        let both = length-append l.put line in
+        record {
+          put = l.put ++ line;
+          grown = grown_by_both l.grown g;
+          most = most;
+          enough = omega arith;
+          room = omega arith;
+          lines = append_assoc l.put line (record_lines most (drop n rest)) ∙ rw (lines_more most rest h) at is;
+        }
 
 -- no more is whole
-pub none_left : {before bytes now rest : List ℕ} → Left before bytes now rest → is_whole rest ≡ false
-    → (now ≡ before ++ record_lines 256 bytes) × (length now ≤ length before + 3 * length bytes)
-none_left {now = now} {rest = rest} l h =
-    let room = l.room in
-    (sym (append-nil now) ∙ rw (lines_none l.most rest h) at l.lines, omega arith)
+pub none_left : {first now : Listing} {bytes rest : List ℕ} → Left first bytes now rest → is_whole rest ≡ false
+    → Grown first now (record_lines 256 bytes) × (now.len ≤ first.len + 3 * length bytes)
+none_left {first} {now} {bytes} {rest} l h =
+    let all : l.put ≡ record_lines 256 bytes = sym (append-nil l.put) ∙ rw (lines_none l.most rest h) at l.lines in
+    (subst (Grown first now) all l.grown, omega (arith, l.room, l.grown.len))

@@ -1,7 +1,7 @@
 // The listing of one part.
-ghost use Rattle.std.specs.Prelude.{◌≡◌, ◌+◌, ◌<◌, ◌≤◌, ◌++◌, length, take};
+ghost use Rattle.std.specs.Prelude.{◌≡◌, ◌+◌, ◌<◌, ◌≤◌, length, take};
 ghost use Rattle.lister.specs.Listing.{position as position_number, part_line, end_line, refused_line, listing};
-ghost use Rattle.lister.specs.Code.{plus_middle, EndFits, RefusedFits};
+ghost use Rattle.lister.specs.Code.{plus_middle, HasRoom, Grown, EndFits, RefusedFits};
 
 use super::records::put_records;
 use super::text::{Listing, Number};
@@ -22,16 +22,16 @@ fn position(p: u32) -> Number
 
 // How many bytes were read.
 fn put_part(out: &mut Listing, n: usize)
-    requires { (n ≤ 8193) × (length out.old + 12 ≤ 16384) }
-    ensures { out.new ≡ out.old ++ part_line n }
+    requires { (n ≤ 8193) × HasRoom out.old 12 }
+    ensures { Grown out.old out.new (part_line n) }
 {
     out.line(b"PART", &[Number::Plain(n as u16)]);
 }
 
 // Where the part ended, its elements and its record bytes.
 fn put_end(out: &mut Listing, r: Interpreted)
-    requires { EndFits r × (length out.old + 32 ≤ 16384) }
-    ensures { out.new ≡ out.old ++ end_line r }
+    requires { EndFits r × HasRoom out.old 32 }
+    ensures { Grown out.old out.new (end_line r) }
 {
     let ns = [
         position(r.state.at.i),
@@ -44,8 +44,8 @@ fn put_end(out: &mut Listing, r: Interpreted)
 
 // A refusal's code and offset.
 fn put_refused(out: &mut Listing, r: Interpreted)
-    requires { RefusedFits r × (length out.old + 22 ≤ 16384) }
-    ensures { out.new ≡ out.old ++ refused_line r }
+    requires { RefusedFits r × HasRoom out.old 22 }
+    ensures { Grown out.old out.new (refused_line r) }
 {
     let ns = [
         Number::Plain(r.answer.code as u16),
@@ -55,21 +55,19 @@ fn put_refused(out: &mut Listing, r: Interpreted)
 }
 
 // The listing of a part that was read.
-fn listed(part: &[u8], increment: u32) -> Listing
-    requires { length part.now ≤ 8193 }
-    ensures { result ≡ listing increment part.now }
+fn put_listing(out: &mut Listing, part: &[u8], increment: u32)
+    requires { (length part.now ≤ 8193) × HasRoom out.old 16384 }
+    ensures { Grown out.old out.new (listing increment part.now) }
 {
     let mut area = [0u8; 4096];
     let r = on_sheet(part, 144, increment, &mut area, sheet_state(increment));
-    let mut listing = Listing::new();
-    put_part(&mut listing, part.len());
+    put_part(out, part.len());
     if r.answer.code != DONE {
-        put_refused(&mut listing, r);
-        return listing;
+        put_refused(out, r);
+        return;
     }
-    put_records(&mut listing, &area[..r.state.used as usize]);
-    put_end(&mut listing, r);
-    listing
+    put_records(out, &area[..r.state.used as usize]);
+    put_end(out, r);
 }
 
 // Lists a part that was read, into a buffer that holds every listing, and answers how many bytes that are.
@@ -79,9 +77,7 @@ pub fn list(part: &[u8], increment: u32, out: &mut [u8]) -> usize
     ensures within { (result ≤ length out.new) × (result ≡ length (take result out.new)) }
     ensures listed { take result out.new ≡ listing increment part.now }
 {
-    let listing = listed(part, increment);
-    let text = listing.as_slice();
-    let n = text.len();
-    out[..n].copy_from_slice(text);
-    n
+    let mut listing = Listing::new(out);
+    put_listing(&mut listing, part, increment);
+    listing.len()
 }

@@ -1,7 +1,7 @@
 // Records as lines.
-ghost use Rattle.std.specs.Prelude.{◌≡◌, ◌+◌, ◌*◌, ◌≤◌, ◌++◌, ◌∷◌, [], length, map};
+ghost use Rattle.std.specs.Prelude.{◌≡◌, ◌+◌, ◌*◌, ◌≤◌, ◌∷◌, [], length, map};
 ghost use Rattle.lister.specs.Listing.{plain_at, signed_at, record_line, record_lines};
-ghost use Rattle.lister.specs.Code.{plus_middle, kind_of};
+ghost use Rattle.lister.specs.Code.{plus_middle, HasRoom, Grown, kind_of};
 
 use super::text::{Listing, Number};
 use part::whole::{is_whole, little_at};
@@ -55,8 +55,8 @@ fn numbers(r: &[u8], fifth: Number) -> [Number; 6]
 
 // A record's line: of a text its numbers and its characters, of a rule its numbers.
 fn put_record(out: &mut Listing, r: &[u8])
-    requires { (16 ≤ length r.now) × (length out.old + 3 * length r.now ≤ 16384) }
-    ensures { out.new ≡ out.old ++ record_line r.now }
+    requires { (16 ≤ length r.now) × HasRoom out.old (3 * length r.now) }
+    ensures { Grown out.old out.new (record_line r.now) }
 {
     match Kind::of(r) {
         Kind::Text => {
@@ -69,9 +69,9 @@ fn put_record(out: &mut Listing, r: &[u8])
 
 // The lines of some records, as long as they are whole.
 pub fn put_records(out: &mut Listing, bytes: &[u8])
-    requires { (length bytes.now ≤ 4096) × (length out.old + 3 * length bytes.now ≤ 16384) }
-    ensures lines { out.new ≡ out.old ++ record_lines 256 bytes.now }
-    ensures short { length out.new ≤ length out.old + 3 * length bytes.now }
+    requires { (length bytes.now ≤ 4096) × HasRoom out.old (3 * length bytes.now) }
+    ensures lines { Grown out.old out.new (record_lines 256 bytes.now) }
+    ensures short { out.new.len ≤ out.old.len + 3 * length bytes.now }
 {
     let mut rest = bytes;
     // what is left is split off by the record's own length, which no iterator of std does

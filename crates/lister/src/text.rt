@@ -1,14 +1,9 @@
 // The text of a listing as far as it has come, in ASCII: each method puts its own behind it.
-ghost use Rattle.std.specs.Prelude.{◌≡◌, ℕ, ◌+◌, ◌*◌, ◌≤◌, ◌<◌, ◌++◌, List, [], length, map};
+ghost use Rattle.std.specs.Prelude.{◌≡◌, ◌+◌, ◌*◌, ◌<◌, ◌++◌, length, map};
 ghost use Rattle.lister.specs.Lines.{numeral, numbers, hex_digit, hex_bytes, line_of, characters_in_hex};
-ghost use Rattle.lister.specs.Code.{plus_middle};
+ghost use Rattle.lister.specs.Code.{plus_middle, HasRoom, Grown};
 
-use arrayvec::ArrayVec;
 use itoa::Buffer;
-use std::marker::Model;
-
-// Room for every listing, with no heap.
-const ROOM: usize = 16384;
 
 // A number of two bytes, without or with a sign: five digits at most.
 #[derive(Clone, Copy)]
@@ -17,48 +12,44 @@ pub enum Number {
     Signed(i16),
 }
 
+// It lies at the start of a buffer that is lent, so that nothing is copied. `Code.text` is the text.
 #[derive(Drop)]
-pub struct Listing {
-    text: ArrayVec<u8, ROOM>,
+pub struct Listing<'a> {
+    out: &'a mut [u8],
+    len: usize,
 }
 
-// Clauses see the text.
-impl Model for Listing {
-    ghost Value = { List ℕ };
-
-    ghost view = { λ l. l.text.items };
-}
-
-impl Listing {
+impl<'a> Listing<'a> {
     // No text yet.
-    pub fn new() -> Self
-        ensures { result ≡ [] }
+    pub fn new(out: &'a mut [u8]) -> Listing<'a>
+        ensures empty { result.len ≡ 0 }
+        ensures room { result.out.now ≡ out.old }
+        ensures same_reference { result.out.ghost_name ≡ out.entry.ghost_name }
     {
-        Listing {
-            text: ArrayVec::new(),
-        }
+        Listing { out, len: 0 }
     }
 
-    // The text.
-    pub fn as_slice(&self) -> &[u8]
-        ensures value { result.now ≡ self.now }
-        ensures fits { length result.now ≤ 16384 }
+    // How long the text is.
+    pub fn len(&self) -> usize
+        ensures { result ≡ self.now.len }
     {
-        self.text.as_slice()
+        self.len
     }
 
-    // Some characters as they are. There is room, so `unwrap` never stops.
+    // Some characters as they are.
     pub fn put(&mut self, word: &[u8])
-        requires { length self.old + length word.now ≤ 16384 }
-        ensures { self.new ≡ self.old ++ word.now }
+        requires { HasRoom self.old (length word.now) }
+        ensures { Grown self.old self.new word.now }
     {
-        self.text.try_extend_from_slice(word).unwrap();
+        let to = self.len + word.len();
+        self.out[self.len..to].copy_from_slice(word);
+        self.len = to;
     }
 
     // A number, with a minus where it is negative.
     fn number(&mut self, n: Number)
-        requires { length self.old + 6 ≤ 16384 }
-        ensures { self.new ≡ self.old ++ numeral (plus_middle n) }
+        requires { HasRoom self.old 6 }
+        ensures { Grown self.old self.new (numeral (plus_middle n)) }
     {
         let mut digits = Buffer::new();
         match n {
@@ -69,8 +60,8 @@ impl Listing {
 
     // Numbers, a space before each.
     fn numbers(&mut self, ns: &[Number])
-        requires { length self.old + 7 * length ns.now ≤ 16384 }
-        ensures { self.new ≡ self.old ++ numbers (map plus_middle ns.now) }
+        requires { HasRoom self.old (7 * length ns.now) }
+        ensures { Grown self.old self.new (numbers (map plus_middle ns.now)) }
     {
         for n in ns {
             self.put(b" ");
@@ -80,18 +71,18 @@ impl Listing {
 
     // Bytes in capital hexadecimal.
     fn hex(&mut self, bytes: &[u8])
-        requires { length self.old + 2 * length bytes.now ≤ 16384 }
-        ensures { self.new ≡ self.old ++ hex_bytes bytes.now }
+        requires { HasRoom self.old (2 * length bytes.now) }
+        ensures { Grown self.old self.new (hex_bytes bytes.now) }
     {
-        for b in bytes {
-            self.put(&[hex_digit(b / 16), hex_digit(b % 16)]);
-        }
+        let to = self.len + 2 * bytes.len();
+        write_hex(&mut self.out[self.len..to], bytes);
+        self.len = to;
     }
 
     // A word and numbers.
     pub fn fields(&mut self, word: &[u8], ns: &[Number])
-        requires { length self.old + length word.now + 7 * length ns.now ≤ 16384 }
-        ensures { self.new ≡ self.old ++ (word.now ++ numbers (map plus_middle ns.now)) }
+        requires { HasRoom self.old (length word.now + 7 * length ns.now) }
+        ensures { Grown self.old self.new (word.now ++ numbers (map plus_middle ns.now)) }
     {
         self.put(word);
         self.numbers(ns);
@@ -99,8 +90,8 @@ impl Listing {
 
     // A word and numbers, and the end of the line.
     pub fn line(&mut self, word: &[u8], ns: &[Number])
-        requires { length self.old + length word.now + 7 * length ns.now + 1 ≤ 16384 }
-        ensures { self.new ≡ self.old ++ line_of word.now (map plus_middle ns.now) }
+        requires { HasRoom self.old (length word.now + 7 * length ns.now + 1) }
+        ensures { Grown self.old self.new (line_of word.now (map plus_middle ns.now)) }
     {
         self.fields(word, ns);
         self.put(b"\n");
@@ -108,12 +99,25 @@ impl Listing {
 
     // Characters behind a space, in hexadecimal, and the end of the line.
     pub fn characters(&mut self, bytes: &[u8])
-        requires { length self.old + 2 * length bytes.now + 2 ≤ 16384 }
-        ensures { self.new ≡ self.old ++ characters_in_hex bytes.now }
+        requires { HasRoom self.old (2 * length bytes.now + 2) }
+        ensures { Grown self.old self.new (characters_in_hex bytes.now) }
     {
         self.put(b" ");
         self.hex(bytes);
         self.put(b"\n");
+    }
+}
+
+// Bytes in capital hexadecimal, into a place of just that length.
+fn write_hex(out: &mut [u8], bytes: &[u8])
+    requires { length out.old ≡ 2 * length bytes.now }
+    ensures { out.new ≡ hex_bytes bytes.now }
+{
+    // by index, since each byte has two places
+    for i in 0..bytes.len() {
+        let b = bytes[i];
+        out[2 * i] = hex_digit(b / 16);
+        out[2 * i + 1] = hex_digit(b % 16);
     }
 }
 

@@ -11,3 +11,6 @@ loop-rest-preserved c = grind (arith, fewer_left)
 
 pub returns-clause-lines : goal.returns-clause-lines
 returns-clause-lines c = (none_left c.loop-rest.invariant (sym c.is_whole.ensures ∙ c.loop-rest-test.false)).0
+
+pub returns-clause-short : goal.returns-clause-short
+returns-clause-short c = (none_left c.loop-rest.invariant (sym c.is_whole.ensures ∙ c.loop-rest-test.false)).1
