@@ -144,11 +144,13 @@ class Crate:
         return self.types[found[0]]
 
     def _methods(self, path, head, words):
-        """A type's methods can be named where it can; a trait's functions, which have no `pub`, where all its types of this crate can."""
+        """A type's methods can be named where it can; a trait's functions, which have no `pub`, where the type that they are for can, or is another crate's."""
         trait = 'for' in head
-        name = re.sub('<.*?>', '', ''.join(head[head.index('for') + 1:] if trait else head))
-        own = [word for word in head if any(word == kind for _, kind in self.types)] if trait else [name]
-        named = all([self._is_named(path, word) for word in own or [name]])
+        whole = head[head.index('for') + 1:] if trait else head
+        name = re.sub('<.*?>', '', ''.join(whole))
+        own = {kind for _, kind in self.types}
+        foreign = trait and name not in own and any(word in own for word in head)
+        named = foreign or self._is_named(path, name)
         public, at = trait, 0
         while at < len(words):
             if words[at] == 'fn':

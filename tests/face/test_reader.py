@@ -74,9 +74,13 @@ class Methods(unittest.TestCase):
     def test_a_block_may_stand_in_another_module(self):
         self.assertEqual(read(lib='pub mod a;\nmod b;', a='pub struct S { n: u32 }\nstruct T { n: u32 }', b='impl S { pub fn m() requires { P } {} pub(crate) fn near() {} }\nimpl T { pub fn m() {} }'), ['b S::m!'])
 
-    def test_a_trait_s_functions_count_where_all_its_types_can_be_named(self):
-        text = 'pub struct S(u8);\nstruct P(u8);\nimpl From<S> for u8 { ghost from_gives = { λ s n. n ≡ s }; fn from(s: S) -> u8 { s.0 } }\nimpl From<P> for S { fn from(p: P) -> S { S(p.0) } }'
-        self.assertEqual(read(lib=text), ['lib u8::from'])
+    def test_a_trait_s_functions_count_where_the_type_that_they_are_for_does(self):
+        text = 'pub struct S(u8);\nstruct P(u8);\nimpl From<S> for u8 { ghost from_gives = { λ s n. n ≡ s }; fn from(s: S) -> u8 { s.0 } }\nimpl From<P> for S { fn from(p: P) -> S { S(p.0) } }\nimpl From<S> for P { fn from(s: S) -> P { P(s.0) } }'
+        self.assertEqual(read(lib=text), ['lib u8::from', 'lib S::from'])
+
+    def test_a_type_that_is_given_to_it_may_be_hidden(self):
+        a, b = 'pub struct P;', 'pub struct S<T>(T);\nimpl Go for S<P> { fn go(self) requires { R } {} }\nimpl Go<P> for u8 { fn on(self) requires { R } {} }\npub fn make() -> S<P> { S(P) }'
+        self.assertEqual(read(lib='mod a;\npub mod b;', a=a, b=b), ['b make', 'b S::go!', 'b u8::on!'])
 
 
 class Others(unittest.TestCase):
