@@ -13,6 +13,8 @@ CLOSING = {'{': '}', '(': ')', '[': ']'}
 BETWEEN = {'extern', '"C"'}
 # what a function's contract is made of: a word, a name or none, and braces
 CLAUSES = {'requires', 'ensures', 'ghost'}
+# what a trait's block may say of its functions without asking
+SAYS = {'from_gives', 'try_from_gives', 'Value', 'view'}
 
 
 class Function(NamedTuple):
@@ -150,6 +152,8 @@ class Crate:
         name = re.sub('<.*?>', '', ''.join(whole))
         own = {kind for _, kind in self.types}
         foreign = trait and name not in own and any(word in own for word in head)
+        if trait and not foreign and (path, name) not in self.types:
+            raise Unread(f'{self._called(path)}: impl {name}, which may be a type of another module or crate')
         named = foreign or self._is_named(path, name)
         public, at = trait, 0
         while at < len(words):
@@ -157,6 +161,8 @@ class Crate:
                 at = self._function(path, words, at, public and named, f'{name}::')
                 public = trait
             elif trait and words[at] in CLAUSES:
+                if words[at + 1] not in SAYS:
+                    raise Unread(f'{self._called(path)}: impl {name}, {words[at + 1]}, which may ask something')
                 at = statement(words, at)
             else:
                 public = trait or words[at] == 'pub' and words[at + 1] != '(' or public and words[at] in {*BETWEEN, 'const'}

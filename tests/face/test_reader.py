@@ -89,7 +89,7 @@ class Others(unittest.TestCase):
         self.assertEqual(read(lib=text), ['lib f'])
 
     def test_what_could_hide_a_function_is_refused(self):
-        for text in ('pub use a::f;\nmod a {}', 'impl S { pub fn m() {} }', 'impl From<u8> for u16 { fn from(n: u8) -> u16 { n } }', 'mod a { struct S; }\nmod b { struct S; }\nimpl S { pub fn m() {} }', 'macro f() {}'):
+        for text in ('pub use a::f;\nmod a {}', 'impl S { pub fn m() {} }', 'impl From<u8> for u16 { fn from(n: u8) -> u16 { n } }', 'pub struct S;\nimpl Add for S { ghost can_add = { λ a b. R }; fn add(self, o: S) -> S { o } }', 'mod a { struct S; }\nuse other::S;\npub struct Q;\nimpl From<Q> for S { fn from(q: Q) -> S requires { R } { q.s } }', 'mod a { struct S; }\nmod b { struct S; }\nimpl S { pub fn m() {} }', 'macro f() {}'):
             with self.assertRaises(Unread):
                 read(lib=text)
 
