@@ -23,18 +23,17 @@ module _ (area : List ℕ) (from : ℕ) where
   abbrev moved : ℕ → List ℕ
   moved k = take k unread ++ drop k area
 
-  pub all_moved : (past : ℕ) → past ≤ length area → moved_down area from past ≡ moved (past - from)
-  all_moved past fits =
-      ap (λ (m : ℕ). take (past - from) unread ++ drop m area)
-      (let z : 0 + length (take (past - from) unread) ≡ past - from = omega (arith, length-take-le (past - from) unread (omega (arith, length-drop from area))) in z)
+  all_moved : (k : ℕ) → from + k ≤ length area → moved_down area from (from + k) ≡ moved k
+  all_moved k fits =
+      let past = from + k - from in
+      ap (λ (m : ℕ). take past unread ++ drop m area)
+      (let z : 0 + length (take past unread) ≡ past = omega (arith, length-take-le past unread (omega (arith, length-drop from area))) in z)
+      ∙ ap moved (let z : past ≡ k = omega arith in z)
 
-  pub none_moved : from ≤ length area → moved_down area from from ≡ area
-  none_moved fits = all_moved from fits ∙ ap moved (let z : from - from ≡ 0 = omega arith in z)
+  pub none_moved : from ≤ length area → moved_down area from (from + 0) ≡ area
+  none_moved fits = all_moved 0 (omega arith)
 
-  module _ (at n : ℕ) (low : from ≤ at) (fits : at + n ≤ length area) where
-    abbrev k : ℕ
-    k = at - from
-
+  module _ (k n : ℕ) (fits : from + k + n ≤ length area) where
     long : length (take k unread) ≡ k
     long = length-take-le k unread (omega (arith, length-drop from area))
 
@@ -42,27 +41,18 @@ module _ (area : List ℕ) (from : ℕ) where
     behind : (i : ℕ) → drop (k + i) (moved k) ≡ drop (k + i) area
     behind i = sym (drop-drop i k (moved k)) ∙ ap (drop i) (drop_at (take k unread) (drop k area) k long) ∙ drop-drop i k area
 
-    others : drop at (moved k) ≡ drop k unread
+    others : drop (from + k) (moved k) ≡ drop k unread
     others =
-        ap (λ (j : ℕ). drop j (moved k)) (let z : at ≡ k + from = omega arith in z)
+        ap (λ (j : ℕ). drop j (moved k)) (let z : from + k ≡ k + from = omega arith in z)
         ∙ behind from
         ∙ ap (λ (j : ℕ). drop j area) (let z : k + from ≡ from + k = omega arith in z)
         ∙ sym (drop-drop k from area)
 
     -- some more
-    pub moved_more : paste (moved_down area from at) k (drop at (moved_down area from at)) n ≡ moved_down area from (at + n)
-    moved_more =
-        rw (all_moved at (omega arith), all_moved (at + n) fits)
-        (ap (λ (t : List ℕ). t ++ take n (drop at (moved k)) ++ drop (k + n) (moved k)) (take_at (take k unread) (drop k area) k long)
+    pub moved_more : (was : List ℕ) → was ≡ moved_down area from (from + k) → paste was k (drop (from + k) was) n ≡ moved_down area from (from + (k + n))
+    moved_more was before =
+        rw (before, all_moved k (omega arith), all_moved (k + n) (omega arith))
+        (ap (λ (t : List ℕ). t ++ take n (drop (from + k) (moved k)) ++ drop (k + n) (moved k)) (take_at (take k unread) (drop k area) k long)
         ∙ ap (λ (t : List ℕ). take k unread ++ take n t ++ drop (k + n) (moved k)) others
         ∙ ap (λ (t : List ℕ). take k unread ++ take n (drop k unread) ++ t) (behind n)
-        ∙ ap (λ (t : List ℕ). t ++ drop (k + n) area) (sym (take-add k n unread))
-        ∙ ap moved (let z : k + n ≡ at + n - from = omega arith in z))
-
--- the same, by how many were moved before
-pub moved_on : (area : List ℕ) (from k n : ℕ) (was : List ℕ) → was ≡ moved_down area from (from + k) → from + k + n ≤ length area → paste was k (drop (from + k) was) n ≡ moved_down area from (from + (k + n))
-moved_on area from k n was before fits =
-    ap (λ t. paste t k (drop (from + k) t) n) before
-    ∙ ap (λ (m : ℕ). paste (moved_down area from (from + k)) m (drop (from + k) (moved_down area from (from + k))) n) (let z : k ≡ from + k - from = omega arith in z)
-    ∙ moved_more area from (from + k) n (omega arith) fits
-    ∙ ap (moved_down area from) (let z : from + k + n ≡ from + (k + n) = omega arith in z)
+        ∙ ap (λ (t : List ℕ). t ++ drop (k + n) area) (sym (take-add k n unread)))

@@ -3,13 +3,13 @@ use Rattle.std.proofs.Common.{◌≡◌, ◌+◌, ◌-◌, ◌≤◌, length, dr
 use lib.Seq.{paste}
 use Rattle.hub.specs.Requests.{moved_down}
 use Rattle.hub.proofs.Bytes.{moved_length}
-use Rattle.hub.proofs.Moving.{stored, none_moved, moved_on}
+use Rattle.hub.proofs.Moving.{stored, none_moved, moved_more}
 use Rattle.hub.proofs.drain.move_down.Goals as goal
 
 pub loop-k-init : goal.loop-k-init
 loop-k-init c =
     let a = c.args in
-    record { within = omega arith; moved = sym (ap (moved_down a.area.now a.from) (let z : a.from + 0 ≡ a.from = omega arith in z) ∙ none_moved a.area.now a.from (omega (arith, c.requires.0, c.requires.1))) }
+    record { within = omega arith; moved = sym (none_moved a.area.now a.from (omega (arith, c.requires.0, c.requires.1))) }
 
 pub loop-k-preserved : goal.loop-k-preserved
 loop-k-preserved c =
@@ -21,7 +21,7 @@ loop-k-preserved c =
       within = within;
       moved =
           stored l.area _ l.k (a.from + l.k) 64 (omega (arith, within, long, c.requires.0, c.requires.1)) (c.copy_from_slice-in-loop-k.ensures.after ∙ c.copy_from_slice.ensures.after)
-          ∙ moved_on a.area.now a.from l.k 64 l.area l.invariant.moved (omega (arith, within, c.requires.0, c.requires.1));
+          ∙ moved_more a.area.now a.from l.k 64 (omega (arith, within, c.requires.0, c.requires.1)) l.area l.invariant.moved;
     }
 
 pub returns : goal.returns
@@ -30,5 +30,5 @@ returns c =
     let l = c.loop-k in
     c.copy_within.ensures.after
     ∙ ap (paste l.area l.k (drop (a.from + l.k) l.area)) (let z : a.to - (a.from + l.k) ≡ a.to - a.from - l.k = omega arith in z)
-    ∙ moved_on a.area.now a.from l.k (a.to - a.from - l.k) l.area l.invariant.moved (omega (arith, l.invariant.within, c.requires.0, c.requires.1))
+    ∙ moved_more a.area.now a.from l.k (a.to - a.from - l.k) (omega (arith, l.invariant.within, c.requires.0, c.requires.1)) l.area l.invariant.moved
     ∙ ap (moved_down a.area.now a.from) (let z : a.from + (l.k + (a.to - a.from - l.k)) ≡ a.to = omega (arith, l.invariant.within, c.requires.0) in z)
