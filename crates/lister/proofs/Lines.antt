@@ -6,9 +6,8 @@ use Rattle.std.proofs.lemmas.List.{append-nil}
 use Rattle.part.specs.Records.{little_at, is_whole}
 use Rattle.lister.specs.Lines.{newline, hex_bytes, numbers, characters_in_hex}
 use Rattle.lister.specs.Listing.{«T», «R», text_numbers, rule_numbers, text_line, rule_line, record_line, record_lines}
-use Rattle.lister.specs.Code.{kind_of}
+use Rattle.lister.specs.Code.{kind_of, Grown}
 use Rattle.lister.specs.declared.records.Kind.TheVariants.{Text}
-use Rattle.lister.specs.Code.{Grown}
 use Rattle.lister.specs.declared.text.Listing.{Listing}
 use Rattle.lister.proofs.Grown.{unchanged, grown_by_both}
 use Rattle.lister.proofs.Digits.{numbers_short, hex_short}

@@ -37,7 +37,7 @@ impl<'a> Listing<'a> {
     }
 
     // Some characters as they are.
-    pub fn put(&mut self, word: &[u8])
+    fn put(&mut self, word: &[u8])
         requires { HasRoom self.old (length word.now) }
         ensures { Grown self.old self.new word.now }
     {
